@@ -1,0 +1,3 @@
+pub mod Said
+pub mod Calendar
+pub mod Closed

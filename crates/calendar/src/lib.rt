@@ -156,18 +156,30 @@ pub fn day_number(date: Date) -> DayNumber
     ensures { λ r. ⌜ saidDay r ≡ dayNumberOf date ⌝ }
 {
     if !is_date(date) {
-        return DayNumber::Refused(Refusal { number: 21, place: 0 });
+        return DayNumber::Refused(Refusal {
+            number: 21,
+            place: 0,
+        });
     }
     let year = date.year as u32;
     if year < 2000 {
-        return DayNumber::Refused(Refusal { number: 21, place: 0 });
+        return DayNumber::Refused(Refusal {
+            number: 21,
+            place: 0,
+        });
     }
     if year > 2179 {
-        return DayNumber::Refused(Refusal { number: 21, place: 0 });
+        return DayNumber::Refused(Refusal {
+            number: 21,
+            place: 0,
+        });
     }
     let n = closed_number(year - 2000, date.month as u32, date.day as u32);
     if n > 65535 {
-        return DayNumber::Refused(Refusal { number: 21, place: 0 });
+        return DayNumber::Refused(Refusal {
+            number: 21,
+            place: 0,
+        });
     }
     DayNumber::Day(n as u16)
 }

@@ -1,0 +1,4 @@
+pub mod Range
+pub mod Dates
+pub mod Closed
+pub mod Determined

@@ -1,0 +1,167 @@
+-- DETERMINED: no second answer, and no second room at exit, fits a promise of this crate. Each answer says one thing of the paper's and
+-- is made again from it (`unsaid`), so one shared lemma serves all; a writer's room is an equation. Assumes nothing.
+use mathlib.Core.Path.{_≡_, refl}
+use mathlib.Core.Bool.{Bool}
+use mathlib.Core.List.{List}
+use Prim.Native.Nat.{ℕ, _+_}
+use lib.IntN.{ℤ}
+use Rattle.calendar.specs.Said.{Said, answer, refusal, refusing}
+use Rattle.calendar.proofs.Determined.{fixes, only}
+use Rattle.meter.specs.Lent.{writes, wrote, saidWritten}
+use Rattle.meter.specs.Integer.{stored, wordOf, fitsUnsigned, fitsSigned, saidUnsigned, saidSigned, unsignedAt, signedAt}
+use Rattle.meter.specs.Time.{isTime, bitsOf, timeReadAt, compared, saidTime, saidOrder}
+use Rattle.meter.specs.General.{digitsOf, generalReadAt, saidGeneral, putGeneral, fitsGeneral, generalOf, textTimeAt}
+use Rattle.meter.specs.Scaled.{scaledReadAt, saidScaled, fitsScaled, putScaled}
+use Rattle.meter.specs.Rounding.{roundedOf, saidRounded}
+use Rattle.meter.specs.Reading.{readingOf, saidReading}
+use Rattle.meter.specs.declared.integer.Written.{Written}
+use Rattle.meter.specs.declared.integer.Written.the-variants as W
+use Rattle.meter.specs.declared.integer.Unsigned.{Unsigned}
+use Rattle.meter.specs.declared.integer.Unsigned.the-variants as U
+use Rattle.meter.specs.declared.integer.Signed.{Signed}
+use Rattle.meter.specs.declared.integer.Signed.the-variants as I
+use Rattle.meter.specs.declared.time.Time.{Time}
+use Rattle.meter.specs.declared.time.TimeRead.{TimeRead}
+use Rattle.meter.specs.declared.time.TimeRead.the-variants as T
+use Rattle.meter.specs.declared.time.Order.{Order}
+use Rattle.meter.specs.declared.time.TimeOrder.{TimeOrder}
+use Rattle.meter.specs.declared.time.TimeOrder.the-variants as O
+use Rattle.meter.specs.declared.general.General.{General}
+use Rattle.meter.specs.declared.general.GeneralRead.{GeneralRead}
+use Rattle.meter.specs.declared.general.GeneralRead.the-variants as G
+use Rattle.meter.specs.declared.scaled.Scaled.{Scaled}
+use Rattle.meter.specs.declared.scaled.ScaledRead.{ScaledRead}
+use Rattle.meter.specs.declared.scaled.ScaledRead.the-variants as S
+use Rattle.meter.specs.declared.scaled.Decimal.{Decimal}
+use Rattle.meter.specs.declared.scaled.Rounded.{Rounded}
+use Rattle.meter.specs.declared.scaled.Rounded.the-variants as R
+use Rattle.meter.specs.declared.scaled.Reading.{Reading}
+use Rattle.meter.specs.declared.scaled.Shown.{Shown}
+use Rattle.meter.specs.declared.scaled.Shown.the-variants as M
+
+-- ---- each answer is made again from what it says
+abbrev unsaidWritten : Said ℕ → Written
+unsaidWritten (answer x) = W.Bytes x
+unsaidWritten (refusal n p) = W.Refused (refusing n p)
+
+written-back : (r : Written) → unsaidWritten (saidWritten r) ≡ r
+written-back (W.Bytes x) = refl
+written-back (W.Refused r) = refl
+
+abbrev unsaidUnsigned : Said ℕ → Unsigned
+unsaidUnsigned (answer x) = U.Value x
+unsaidUnsigned (refusal n p) = U.Refused (refusing n p)
+
+unsigned-back : (r : Unsigned) → unsaidUnsigned (saidUnsigned r) ≡ r
+unsigned-back (U.Value x) = refl
+unsigned-back (U.Refused r) = refl
+
+abbrev unsaidSigned : Said ℤ → Signed
+unsaidSigned (answer x) = I.Value x
+unsaidSigned (refusal n p) = I.Refused (refusing n p)
+
+signed-back : (r : Signed) → unsaidSigned (saidSigned r) ≡ r
+signed-back (I.Value x) = refl
+signed-back (I.Refused r) = refl
+
+abbrev unsaidTime : Said Time → TimeRead
+unsaidTime (answer x) = T.Time x
+unsaidTime (refusal n p) = T.Refused (refusing n p)
+
+time-back : (r : TimeRead) → unsaidTime (saidTime r) ≡ r
+time-back (T.Time x) = refl
+time-back (T.Refused r) = refl
+
+abbrev unsaidOrder : Said Order → TimeOrder
+unsaidOrder (answer x) = O.Order x
+unsaidOrder (refusal n p) = O.Refused (refusing n p)
+
+order-back : (r : TimeOrder) → unsaidOrder (saidOrder r) ≡ r
+order-back (O.Order x) = refl
+order-back (O.Refused r) = refl
+
+abbrev unsaidGeneral : Said General → GeneralRead
+unsaidGeneral (answer x) = G.Time x
+unsaidGeneral (refusal n p) = G.Refused (refusing n p)
+
+general-back : (r : GeneralRead) → unsaidGeneral (saidGeneral r) ≡ r
+general-back (G.Time x) = refl
+general-back (G.Refused r) = refl
+
+abbrev unsaidScaled : Said Scaled → ScaledRead
+unsaidScaled (answer x) = S.Scaled x
+unsaidScaled (refusal n p) = S.Refused (refusing n p)
+
+scaled-back : (r : ScaledRead) → unsaidScaled (saidScaled r) ≡ r
+scaled-back (S.Scaled x) = refl
+scaled-back (S.Refused r) = refl
+
+abbrev unsaidRounded : Said Decimal → Rounded
+unsaidRounded (answer x) = R.Decimal x
+unsaidRounded (refusal n p) = R.Refused (refusing n p)
+
+rounded-back : (r : Rounded) → unsaidRounded (saidRounded r) ≡ r
+rounded-back (R.Decimal x) = refl
+rounded-back (R.Refused r) = refl
+
+abbrev unsaidReading : Said Reading → Shown
+unsaidReading (answer x) = M.Reading x
+unsaidReading (refusal n p) = M.Refused (refusing n p)
+
+reading-back : (r : Shown) → unsaidReading (saidReading r) ≡ r
+reading-back (M.Reading x) = refl
+reading-back (M.Refused r) = refl
+
+-- ---- the readers
+pub unique-read-unsigned : (a : List ℕ) (at n : ℕ) (r s : Unsigned) → saidUnsigned r ≡ unsignedAt a at n → saidUnsigned s ≡ unsignedAt a at n → r ≡ s
+unique-read-unsigned a at n = fixes saidUnsigned unsaidUnsigned unsigned-back (unsignedAt a at n)
+
+pub unique-read-signed : (a : List ℕ) (at n : ℕ) (r s : Signed) → saidSigned r ≡ signedAt a at n → saidSigned s ≡ signedAt a at n → r ≡ s
+unique-read-signed a at n = fixes saidSigned unsaidSigned signed-back (signedAt a at n)
+
+pub unique-read-time : (a : List ℕ) (at : ℕ) (r s : TimeRead) → saidTime r ≡ timeReadAt a at → saidTime s ≡ timeReadAt a at → r ≡ s
+unique-read-time a at = fixes saidTime unsaidTime time-back (timeReadAt a at)
+
+pub unique-time-order : (t u : Time) (r s : TimeOrder) → saidOrder r ≡ compared t u → saidOrder s ≡ compared t u → r ≡ s
+unique-time-order t u = fixes saidOrder unsaidOrder order-back (compared t u)
+
+pub unique-read-general : (long : Bool) (a : List ℕ) (at : ℕ) (r s : GeneralRead) → saidGeneral r ≡ generalReadAt long a at → saidGeneral s ≡ generalReadAt long a at → r ≡ s
+unique-read-general long a at = fixes saidGeneral unsaidGeneral general-back (generalReadAt long a at)
+
+pub unique-text-time : (a : List ℕ) (at : ℕ) (r s : TimeRead) → saidTime r ≡ textTimeAt a at → saidTime s ≡ textTimeAt a at → r ≡ s
+unique-text-time a at = fixes saidTime unsaidTime time-back (textTimeAt a at)
+
+pub unique-read-scaled : (signed : Bool) (n : ℕ) (a : List ℕ) (at : ℕ) (r s : ScaledRead) → saidScaled r ≡ scaledReadAt signed n a at → saidScaled s ≡ scaledReadAt signed n a at → r ≡ s
+unique-read-scaled signed n a at = fixes saidScaled unsaidScaled scaled-back (scaledReadAt signed n a at)
+
+pub unique-round-to : (x : Scaled) (d : ℤ) (r s : Rounded) → saidRounded r ≡ roundedOf x d → saidRounded s ≡ roundedOf x d → r ≡ s
+unique-round-to x d = fixes saidRounded unsaidRounded rounded-back (roundedOf x d)
+
+pub unique-reading-of : (x : Scaled) (r s : Shown) → saidReading r ≡ readingOf x → saidReading s ≡ readingOf x → r ≡ s
+unique-reading-of x = fixes saidReading unsaidReading reading-back (readingOf x)
+
+-- ---- the writers: of a room, the answer and the room at exit
+-- what a writer promises: n bytes, written where they are right and there is room, so that the room is `new`
+abbrev pub Writes : List ℕ → ℕ → Bool → List ℕ → Written → List ℕ → Type 0
+Writes room n right new r exit = (saidWritten r ≡ writes room n right) × (exit ≡ wrote room n right new)
+
+one-writing : (room : List ℕ) (n : ℕ) (right : Bool) (new : List ℕ) (r s : Written) (p q : List ℕ) → Writes room n right new r p → Writes room n right new s q → (r ≡ s) × (p ≡ q)
+one-writing room n right new r s p q x y = (fixes saidWritten unsaidWritten written-back (writes room n right) r s (x .0) (y .0), only (wrote room n right new) p q (x .1) (y .1))
+
+pub unique-write-unsigned : (room : List ℕ) (n v : ℕ) (r s : Written) (p q : List ℕ) → Writes room n (fitsUnsigned n v) (stored room 0 n v) r p → Writes room n (fitsUnsigned n v) (stored room 0 n v) s q → (r ≡ s) × (p ≡ q)
+unique-write-unsigned room n v = one-writing room n (fitsUnsigned n v) (stored room 0 n v)
+
+pub unique-write-signed : (room : List ℕ) (n : ℕ) (z : ℤ) (r s : Written) (p q : List ℕ) → Writes room n (fitsSigned n z) (stored room 0 n (wordOf z)) r p → Writes room n (fitsSigned n z) (stored room 0 n (wordOf z)) s q → (r ≡ s) × (p ≡ q)
+unique-write-signed room n z = one-writing room n (fitsSigned n z) (stored room 0 n (wordOf z))
+
+pub unique-write-time : (room : List ℕ) (t : Time) (r s : Written) (p q : List ℕ) → Writes room 6 (isTime t) (stored room 0 6 (bitsOf t)) r p → Writes room 6 (isTime t) (stored room 0 6 (bitsOf t)) s q → (r ≡ s) × (p ≡ q)
+unique-write-time room t = one-writing room 6 (isTime t) (stored room 0 6 (bitsOf t))
+
+pub unique-write-general : (room : List ℕ) (long : Bool) (t : General) (r s : Written) (p q : List ℕ) → Writes room (digitsOf long + 1) (fitsGeneral long t) (putGeneral (digitsOf long) room t) r p → Writes room (digitsOf long + 1) (fitsGeneral long t) (putGeneral (digitsOf long) room t) s q → (r ≡ s) × (p ≡ q)
+unique-write-general room long t = one-writing room (digitsOf long + 1) (fitsGeneral long t) (putGeneral (digitsOf long) room t)
+
+pub unique-time-text : (room : List ℕ) (t : Time) (r s : Written) (p q : List ℕ) → Writes room 18 (isTime t) (putGeneral 17 room (generalOf t)) r p → Writes room 18 (isTime t) (putGeneral 17 room (generalOf t)) s q → (r ≡ s) × (p ≡ q)
+unique-time-text room t = one-writing room 18 (isTime t) (putGeneral 17 room (generalOf t))
+
+pub unique-write-scaled : (room : List ℕ) (signed : Bool) (n : ℕ) (x : Scaled) (r s : Written) (p q : List ℕ) → Writes room (1 + n) (fitsScaled signed n x) (putScaled signed n room x) r p → Writes room (1 + n) (fitsScaled signed n x) (putScaled signed n room x) s q → (r ≡ s) × (p ≡ q)
+unique-write-scaled room signed n x = one-writing room (1 + n) (fitsScaled signed n x) (putScaled signed n room x)

@@ -1,0 +1,13 @@
+pub mod Signs
+pub mod IntegerLaws
+pub mod TimeLaws
+pub mod ScaledLaws
+pub mod RoundingLaws
+pub mod ReadingLaws
+pub mod ReadsBack
+pub mod GeneralRuns
+pub mod GeneralWrite
+pub mod GeneralCode
+pub mod GeneralTime
+pub mod GeneralOrder
+pub mod Determined

@@ -1,0 +1,87 @@
+-- The laws of the meter's reading: the quotient of two exactly converted integers is the exact fraction, rounded once, and where 10^s
+-- divides I it is the conversion of the whole quotient. By the kit's account of IEEE division. Assumes nothing.
+use mathlib.Core.Path.{_≡_, refl, sym, ap, _∙_, subst}
+use mathlib.Core.Bool.{Bool, true, false}
+use Prim.Native.Nat.{ℕ, zero, suc, _*_, _/_, _%_, _^_, _≤_, _<_}
+use native.Mathlib.Nat.{mul-one, mul-comm, mul-assoc, mul-left-comm, mul-pos, div-mul-cancel, dvd-of-mod-eq-zero, pow-le-pow-right, zero-mul}
+use native.Mathlib.Omega.{arith}
+use borrow.Author.Tests.{ne-eqb}
+use lib.Dec.{T, lt→ltb, le→leb, lit<, eqb}
+use lib.IntN.{ℤ, pos, negsuc, negℤ, natAbs}
+use lib.Signed.{quotZ}
+use lib.Ieee.{Float, nan, inf, fin, Format, binary64, up, down, unlike, inFloat, ofInt, div, round}
+use lib.Ieee.Fits.{down-pos}
+use lib.Ieee.Exact.{HasValue}
+use lib.Ieee.Back.{round-whole}
+use lib.Ieee.Scale.{round-same}
+use Rattle.meter.specs.Reading.{quotient}
+use Rattle.meter.proofs.RoundingLaws.{ten-pos}
+
+-- a whole number of at most 2 ^ 53 either way is a value of binary64
+pub in-float : (z : ℤ) → natAbs z ≤ 2 ^ 53 → T (inFloat binary64 z)
+unfolding inFloat
+in-float (pos n) h = le→leb n (2 ^ 53) h
+in-float (negsuc n) h = lt→ltb n (2 ^ 53) h
+
+cross : (A N a b D E : ℕ) → A * 1 ≡ a * E → N * 1 ≡ b * D → A * D * b ≡ a * (N * E)
+cross A N a b D E h k =
+    let e : A ≡ a * E = sym (mul-one A) ∙ h in
+    let g : N ≡ b * D = sym (mul-one N) ∙ k in
+    rw (e, g) (simp (mul-assoc, mul-comm, mul-left-comm))
+
+unlike-false : (s : Bool) → unlike s false ≡ s
+unlike-false true = refl
+unlike-false false = refl
+
+-- the quotient of two floats that are whole numbers is the exact fraction, rounded once
+div-whole : (f : Format) (x y : Float) (s : Bool) (a b : ℕ) → HasValue x s a 1 → HasValue y false b 1 → 0 < b → div f x y ≡ round f s a b
+unfolding div
+div-whole f nan y s a b v w p = absurd v
+div-whole f (inf t) y s a b v w p = absurd v
+div-whole f (fin t m e) nan s a b v w p = absurd w
+div-whole f (fin t m e) (inf r) s a b v w p = absurd w
+div-whole f (fin t m e) (fin r n d) s a b v w p =
+    let N = n * up d in
+    let B : N ≡ b * down d = sym (mul-one N) ∙ w .1 in
+    let np : 0 < N = subst (λ (k : ℕ). 0 < k) (sym B) (mul-pos p (down-pos d)) in
+    let nz : eqb n 0 ≡ false = ne-eqb n 0 (λ e. absurd (omega (arith, np, ap (λ (k : ℕ). k * up d) e ∙ zero-mul (up d)))) in
+    rw (nz, v .0, w .0, unlike-false s)
+    (round-same f s (m * up e * down d) (N * down e) a b (mul-pos np (down-pos e)) p (cross (m * up e) N a b (down d) (down e) (v .1) (w .1)))
+
+-- the sign that a whole number has as a float
+abbrev pub minus? : ℤ → Bool
+minus? (pos n) = false
+minus? (negsuc n) = true
+
+ofInt-value : (z : ℤ) → natAbs z ≤ 2 ^ 53 → HasValue (ofInt binary64 z) (minus? z) (natAbs z) 1
+unfolding ofInt
+ofInt-value (pos n) h = round-whole binary64 false n h
+ofInt-value (negsuc n) h = round-whole binary64 true (suc n) h
+
+pub ten-small : (s : ℕ) → s ≤ 15 → 10 ^ s ≤ 2 ^ 53
+ten-small s h = omega (arith, pow-le-pow-right {n = 10} (lit< tt) {i = s} {j = 15} h)
+
+-- ONE ROUNDING of the exact fraction
+pub one-rounding : (i : ℤ) (s : ℕ) → natAbs i ≤ 2 ^ 53 → s ≤ 15 → quotient i s ≡ round binary64 (minus? i) (natAbs i) (10 ^ s)
+one-rounding i s h k =
+    div-whole binary64 (ofInt binary64 i) (ofInt binary64 (pos (10 ^ s))) (minus? i) (natAbs i) (10 ^ s) (ofInt-value i h)
+    (ofInt-value (pos (10 ^ s)) (ten-small s k)) (ten-pos s)
+
+exact : (i : ℤ) (s : ℕ) → natAbs i ≤ 2 ^ 53 → s ≤ 15 → natAbs i % 10 ^ s ≡ 0 → quotient i s ≡ round binary64 (minus? i) (natAbs i / 10 ^ s) 1
+exact i s h k e =
+    one-rounding i s h k
+    ∙ round-same binary64 (minus? i) (natAbs i) (10 ^ s) (natAbs i / 10 ^ s) 1 (ten-pos s) (lit< tt)
+    (mul-one (natAbs i) ∙ sym (div-mul-cancel (10 ^ s) (dvd-of-mod-eq-zero (10 ^ s) e)))
+
+whole-int : (i : ℤ) (p : ℕ) → natAbs i / p * p ≡ natAbs i → round binary64 (minus? i) (natAbs i / p) 1 ≡ ofInt binary64 (quotZ i (pos p))
+unfolding ofInt
+whole-int (pos n) p e = refl
+whole-int (negsuc n) p e = go (suc n / p) e
+  where
+    go : (q : ℕ) → q * p ≡ suc n → round binary64 true q 1 ≡ ofInt binary64 (negℤ (pos q))
+    go zero h = absurd (omega (arith, sym (zero-mul p) ∙ h))
+    go (suc q) h = refl
+
+-- THE EXACT CASE: where 10 ^ s divides I, the quotient is the float of the whole number I / 10 ^ s, with its sign
+pub exact-case : (i : ℤ) (s : ℕ) → natAbs i ≤ 2 ^ 53 → s ≤ 15 → natAbs i % 10 ^ s ≡ 0 → quotient i s ≡ ofInt binary64 (quotZ i (pos (10 ^ s)))
+exact-case i s h k e = exact i s h k e ∙ whole-int i (10 ^ s) (div-mul-cancel (10 ^ s) (dvd-of-mod-eq-zero (10 ^ s) e))

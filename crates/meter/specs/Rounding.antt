@@ -1,0 +1,53 @@
+-- Rounding (01, "Times and scaled numbers": "Rounded to d decimals (0..15, else 21, for undefined too): the whole M nearest to
+-- I·10^d / 10^s, a tie going away from zero, refused 21 if M leaves the signed 64-bit range"). Over unbounded integers. Assumes nothing.
+use Prim.Native.Nat.{ℕ, _+_, _*_, _/_, _^_}
+use mathlib.Core.Bool.{Bool, true, false, cond}
+use lib.Dec.{leb, ltb}
+use lib.IntN.{ℤ, pos, negsuc, negℤ, natAbs}
+use lib.Signed.{mag}
+use Rattle.calendar.specs.Said.{Said, answer, refusal, refused}
+use Rattle.meter.specs.Scaled.{isScale}
+use Rattle.meter.specs.declared.scaled.Scaled.{Scaled}
+use Rattle.meter.specs.declared.scaled.Scaled.the-variants as S
+use Rattle.meter.specs.declared.scaled.Decimal.{Decimal}
+use Rattle.meter.specs.declared.scaled.Decimal.the-variants as D
+use Rattle.meter.specs.declared.scaled.Rounded.{Rounded}
+use Rattle.meter.specs.declared.scaled.Rounded.the-variants as R
+
+-- the decimals that can be asked for: 0 to 15
+unfoldable pub isDecimals : ℤ → Bool
+isDecimals (pos d) = leb d 15
+isDecimals (negsuc d) = false
+
+-- a / b to the nearest whole number, a half upwards: the whole part of a / b + 1 / 2
+unfoldable pub near : ℕ → ℕ → ℕ
+near a b = (2 * a + b) / (2 * b)
+
+-- r with the sign of i, so that a half goes away from zero
+unfoldable pub withSign : ℤ → ℕ → ℤ
+withSign (pos n) r = pos r
+withSign (negsuc n) r = negℤ (pos r)
+
+-- a number that leaves the signed 64-bit range is refused
+unfoldable pub whole64 : ℤ → Said Decimal
+whole64 z = cond (ltb (mag z) 0x8000_0000_0000_0000) (answer (D.Whole z)) (refusal 21 0)
+
+abbrev pub signedOf : ℤ → ℕ → Said Decimal
+signedOf i r = whole64 (withSign i r)
+
+-- I * 10 ^ d / 10 ^ s, rounded
+abbrev pub nearestOf : ℤ → ℕ → ℕ → Said Decimal
+nearestOf i d s = signedOf i (near (natAbs i * 10 ^ d) (10 ^ s))
+
+-- THE ROUNDING
+abbrev pub rounding : Scaled → ℕ → Said Decimal
+rounding S.Undefined d = answer D.Undefined
+rounding (S.Number i s) d = cond (isScale s) (nearestOf i d (natAbs s)) (refusal 21 0)
+
+abbrev pub roundedOf : Scaled → ℤ → Said Decimal
+roundedOf x d = cond (isDecimals d) (rounding x (natAbs d)) (refusal 21 0)
+
+-- what an answer says
+abbrev pub saidRounded : Rounded → Said Decimal
+saidRounded (R.Decimal x) = answer x
+saidRounded (R.Refused r) = refused r

@@ -7,11 +7,11 @@ use Prim.Native.Nat.{ℕ, _+_}
 use lib.IntN.{ℤ}
 use Rattle.calendar.specs.Said.{Said, answer, refusal, refusing}
 use Rattle.calendar.proofs.Determined.{fixes, only}
-use Rattle.meter.specs.Lent.{writes, wrote, saidWritten}
-use Rattle.meter.specs.Integer.{stored, wordOf, fitsUnsigned, fitsSigned, saidUnsigned, saidSigned, unsignedAt, signedAt}
-use Rattle.meter.specs.Time.{isTime, bitsOf, timeReadAt, compared, saidTime, saidOrder}
-use Rattle.meter.specs.General.{digitsOf, generalReadAt, saidGeneral, putGeneral, fitsGeneral, generalOf, textTimeAt}
-use Rattle.meter.specs.Scaled.{scaledReadAt, saidScaled, fitsScaled, putScaled}
+use Rattle.meter.specs.Lent.{writes, wrote, saidWritten, Writes}
+use Rattle.meter.specs.Integer.{stored, wordOf, fitsUnsigned, fitsSigned, saidUnsigned, saidSigned, unsignedAt, signedAt, WritesUnsigned, WritesSigned}
+use Rattle.meter.specs.Time.{isTime, bitsOf, timeReadAt, compared, saidTime, saidOrder, WritesTime}
+use Rattle.meter.specs.General.{digitsOf, generalReadAt, saidGeneral, putGeneral, fitsGeneral, generalOf, textTimeAt, WritesGeneral, WritesText}
+use Rattle.meter.specs.Scaled.{scaledReadAt, saidScaled, fitsScaled, putScaled, WritesScaled}
 use Rattle.meter.specs.Rounding.{roundedOf, saidRounded}
 use Rattle.meter.specs.Reading.{readingOf, saidReading}
 use Rattle.meter.specs.declared.integer.Written.{Written}
@@ -141,27 +141,23 @@ pub unique-reading-of : (x : Scaled) (r s : Shown) → saidReading r ≡ reading
 unique-reading-of x = fixes saidReading unsaidReading reading-back (readingOf x)
 
 -- ---- the writers: of a room, the answer and the room at exit
--- what a writer promises: n bytes, written where they are right and there is room, so that the room is `new`
-abbrev pub Writes : List ℕ → ℕ → Bool → List ℕ → Written → List ℕ → Type 0
-Writes room n right new r exit = (saidWritten r ≡ writes room n right) × (exit ≡ wrote room n right new)
-
 one-writing : (room : List ℕ) (n : ℕ) (right : Bool) (new : List ℕ) (r s : Written) (p q : List ℕ) → Writes room n right new r p → Writes room n right new s q → (r ≡ s) × (p ≡ q)
 one-writing room n right new r s p q x y = (fixes saidWritten unsaidWritten written-back (writes room n right) r s (x .0) (y .0), only (wrote room n right new) p q (x .1) (y .1))
 
-pub unique-write-unsigned : (room : List ℕ) (n v : ℕ) (r s : Written) (p q : List ℕ) → Writes room n (fitsUnsigned n v) (stored room 0 n v) r p → Writes room n (fitsUnsigned n v) (stored room 0 n v) s q → (r ≡ s) × (p ≡ q)
+pub unique-write-unsigned : (room : List ℕ) (n v : ℕ) (r s : Written) (p q : List ℕ) → WritesUnsigned room n v r p → WritesUnsigned room n v s q → (r ≡ s) × (p ≡ q)
 unique-write-unsigned room n v = one-writing room n (fitsUnsigned n v) (stored room 0 n v)
 
-pub unique-write-signed : (room : List ℕ) (n : ℕ) (z : ℤ) (r s : Written) (p q : List ℕ) → Writes room n (fitsSigned n z) (stored room 0 n (wordOf z)) r p → Writes room n (fitsSigned n z) (stored room 0 n (wordOf z)) s q → (r ≡ s) × (p ≡ q)
+pub unique-write-signed : (room : List ℕ) (n : ℕ) (z : ℤ) (r s : Written) (p q : List ℕ) → WritesSigned room n z r p → WritesSigned room n z s q → (r ≡ s) × (p ≡ q)
 unique-write-signed room n z = one-writing room n (fitsSigned n z) (stored room 0 n (wordOf z))
 
-pub unique-write-time : (room : List ℕ) (t : Time) (r s : Written) (p q : List ℕ) → Writes room 6 (isTime t) (stored room 0 6 (bitsOf t)) r p → Writes room 6 (isTime t) (stored room 0 6 (bitsOf t)) s q → (r ≡ s) × (p ≡ q)
+pub unique-write-time : (room : List ℕ) (t : Time) (r s : Written) (p q : List ℕ) → WritesTime room t r p → WritesTime room t s q → (r ≡ s) × (p ≡ q)
 unique-write-time room t = one-writing room 6 (isTime t) (stored room 0 6 (bitsOf t))
 
-pub unique-write-general : (room : List ℕ) (long : Bool) (t : General) (r s : Written) (p q : List ℕ) → Writes room (digitsOf long + 1) (fitsGeneral long t) (putGeneral (digitsOf long) room t) r p → Writes room (digitsOf long + 1) (fitsGeneral long t) (putGeneral (digitsOf long) room t) s q → (r ≡ s) × (p ≡ q)
+pub unique-write-general : (room : List ℕ) (long : Bool) (t : General) (r s : Written) (p q : List ℕ) → WritesGeneral room long t r p → WritesGeneral room long t s q → (r ≡ s) × (p ≡ q)
 unique-write-general room long t = one-writing room (digitsOf long + 1) (fitsGeneral long t) (putGeneral (digitsOf long) room t)
 
-pub unique-time-text : (room : List ℕ) (t : Time) (r s : Written) (p q : List ℕ) → Writes room 18 (isTime t) (putGeneral 17 room (generalOf t)) r p → Writes room 18 (isTime t) (putGeneral 17 room (generalOf t)) s q → (r ≡ s) × (p ≡ q)
+pub unique-time-text : (room : List ℕ) (t : Time) (r s : Written) (p q : List ℕ) → WritesText room t r p → WritesText room t s q → (r ≡ s) × (p ≡ q)
 unique-time-text room t = one-writing room 18 (isTime t) (putGeneral 17 room (generalOf t))
 
-pub unique-write-scaled : (room : List ℕ) (signed : Bool) (n : ℕ) (x : Scaled) (r s : Written) (p q : List ℕ) → Writes room (1 + n) (fitsScaled signed n x) (putScaled signed n room x) r p → Writes room (1 + n) (fitsScaled signed n x) (putScaled signed n room x) s q → (r ≡ s) × (p ≡ q)
+pub unique-write-scaled : (room : List ℕ) (signed : Bool) (n : ℕ) (x : Scaled) (r s : Written) (p q : List ℕ) → WritesScaled room signed n x r p → WritesScaled room signed n x s q → (r ≡ s) × (p ≡ q)
 unique-write-scaled room signed n x = one-writing room (1 + n) (fitsScaled signed n x) (putScaled signed n room x)

@@ -8,7 +8,9 @@ use lib.ListN.{getD, set}
 use Rattle.calendar.specs.Said.{Said, answer, refusal, refused}
 use Rattle.calendar.specs.Calendar.{date, isDate, dateOf, daysTo, hasDay}
 use Rattle.calendar.specs.declared.Date.{Date}
-use Rattle.meter.specs.Lent.{reads}
+use Rattle.meter.specs.declared.integer.Written.{Written}
+use Rattle.meter.specs.Time.{isTime}
+use Rattle.meter.specs.Lent.{reads, Writes}
 use Rattle.meter.specs.declared.time.Time.{Time}
 use Rattle.meter.specs.declared.time.Time.the-variants as T
 use Rattle.meter.specs.declared.general.Moment.{Moment}
@@ -158,3 +160,11 @@ timeOfMoment g = cond (hasTime g) (answer (timeOfGeneral g)) (refusal 21 0)
 -- THE READER of long text: malformed, or a date outside days 0..65535, is refused 21
 abbrev pub textTimeAt : List ℕ → ℕ → Said Time
 textTimeAt a at = reads a at 18 (isGeneral 17 a at && hasTime (generalAt 17 a at)) (timeOfGeneral (generalAt 17 a at))
+
+-- THE WRITER of text
+abbrev pub WritesGeneral : List ℕ → Bool → General → Written → List ℕ → Type 0
+WritesGeneral room long t r exit = Writes room (digitsOf long + 1) (fitsGeneral long t) (putGeneral (digitsOf long) room t) r exit
+
+-- THE WRITER of a day and millisecond as long text
+abbrev pub WritesText : List ℕ → Time → Written → List ℕ → Type 0
+WritesText room t r exit = Writes room 18 (isTime t) (putGeneral 17 room (generalOf t)) r exit

@@ -8,7 +8,8 @@ use lib.IntN.{ℤ, pos, negsuc, subℕ}
 use lib.ListN.{getD, set}
 use lib.Signed.{mag}
 use Rattle.calendar.specs.Said.{Said, answer, refused}
-use Rattle.meter.specs.Lent.{reads}
+use Rattle.meter.specs.declared.integer.Written.{Written}
+use Rattle.meter.specs.Lent.{reads, Writes}
 use Rattle.meter.specs.declared.integer.Unsigned.{Unsigned}
 use Rattle.meter.specs.declared.integer.Unsigned.the-variants as U
 use Rattle.meter.specs.declared.integer.Signed.{Signed}
@@ -66,3 +67,11 @@ saidUnsigned (U.Refused r) = refused r
 abbrev pub saidSigned : Signed → Said ℤ
 saidSigned (S.Value z) = answer z
 saidSigned (S.Refused r) = refused r
+
+-- THE WRITERS
+abbrev pub WritesUnsigned : List ℕ → ℕ → ℕ → Written → List ℕ → Type 0
+WritesUnsigned room n v r exit = Writes room n (fitsUnsigned n v) (stored room 0 n v) r exit
+
+-- in two's complement
+abbrev pub WritesSigned : List ℕ → ℕ → ℤ → Written → List ℕ → Type 0
+WritesSigned room n z r exit = Writes room n (fitsSigned n z) (stored room 0 n (wordOf z)) r exit

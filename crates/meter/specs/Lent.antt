@@ -1,6 +1,7 @@
 -- What leaf readers and writers answer, and what a lent room holds at exit (01, under the table of numbers: "Leaf readers check 20,
 -- then 21. Writers check 22 or 21, then 18. Refusals write nothing."). Assumes nothing.
 use Prim.Native.Nat.{ℕ, _+_}
+use mathlib.Core.Path.{_≡_}
 use mathlib.Core.Bool.{Bool, true, false, cond, _&&_}
 use mathlib.Core.List.{List}
 use lib.Dec.{leb}
@@ -29,3 +30,7 @@ wrote room n right new = cond (right && leb n (length room)) new room
 abbrev pub saidWritten : Written → Said ℕ
 saidWritten (W.Bytes n) = answer n
 saidWritten (W.Refused r) = refused r
+
+-- THE PROMISE of a writer of n bytes: what it answers, and the room at exit, which is `new` where nothing is refused
+abbrev pub Writes : List ℕ → ℕ → Bool → List ℕ → Written → List ℕ → Type 0
+Writes room n right new r exit = (saidWritten r ≡ writes room n right) × (exit ≡ wrote room n right new)

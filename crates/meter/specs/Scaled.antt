@@ -8,7 +8,8 @@ use lib.IntN.{ℤ, pos, negsuc}
 use lib.ListN.{getD}
 use lib.Signed.{ltZ, leZ}
 use Rattle.calendar.specs.Said.{Said, answer, refusal, refused}
-use Rattle.meter.specs.Lent.{reads}
+use Rattle.meter.specs.declared.integer.Written.{Written}
+use Rattle.meter.specs.Lent.{reads, Writes}
 use Rattle.meter.specs.Integer.{beAt, stored, twos, wordOf, isWidth, topOf, halfOf}
 use Rattle.meter.specs.declared.scaled.Scaled.{Scaled}
 use Rattle.meter.specs.declared.scaled.Scaled.the-variants as S
@@ -87,3 +88,11 @@ isNoneWord signed n v = eqb v (cond signed (halfOf n) (topOf n))
 
 abbrev pub definedOf : Bool → ℕ → ℕ → ℤ → Said Scaled
 definedOf signed n v s = cond (isDefined signed n v s) (answer (S.Number (integerOf signed n v) s)) (refusal 21 0)
+
+-- THE WRITER
+abbrev pub WritesScaled : List ℕ → Bool → ℕ → Scaled → Written → List ℕ → Type 0
+WritesScaled room signed n x r exit = Writes room (1 + n) (fitsScaled signed n x) (putScaled signed n room x) r exit
+
+-- of a scale and an integer as words
+abbrev pub WritesParts : List ℕ → ℕ → Bool → ℕ → ℕ → Written → List ℕ → Type 0
+WritesParts room n right s v r exit = Writes room (1 + n) right (stored (stored room 0 1 s) 1 n v) r exit

@@ -5,8 +5,9 @@ use mathlib.Core.Bool.{Bool, true, false, cond, _&&_}
 use mathlib.Core.List.{List}
 use lib.Dec.{eqb, ltb, leb}
 use Rattle.calendar.specs.Said.{Said, answer, refusal, refused}
-use Rattle.meter.specs.Lent.{reads}
-use Rattle.meter.specs.Integer.{beAt}
+use Rattle.meter.specs.declared.integer.Written.{Written}
+use Rattle.meter.specs.Lent.{reads, Writes}
+use Rattle.meter.specs.Integer.{beAt, stored}
 use Rattle.meter.specs.declared.time.Time.{Time}
 use Rattle.meter.specs.declared.time.Time.the-variants as T
 use Rattle.meter.specs.declared.time.TimeRead.{TimeRead}
@@ -61,3 +62,7 @@ saidTime (R.Refused r) = refused r
 abbrev pub saidOrder : TimeOrder → Said Order
 saidOrder (C.Order o) = answer o
 saidOrder (C.Refused r) = refused r
+
+-- THE WRITER
+abbrev pub WritesTime : List ℕ → Time → Written → List ℕ → Type 0
+WritesTime room t r exit = Writes room 6 (isTime t) (stored room 0 6 (bitsOf t)) r exit

@@ -10,9 +10,11 @@ ghost use mathlib.Core.Path.{_≡_};
 ghost use mathlib.Core.Bool.{true};
 ghost use Prim.Native.Nat.{_+_, _-_, _≤_, _<_};
 ghost use lib.ListN.{length};
-ghost use Rattle.meter.specs.Lent.{saidWritten, writes, wrote};
 ghost use Rattle.meter.specs.Time.{isTime, isMilli, saidTime};
-ghost use Rattle.meter.specs.General.{digitsOf, runOf, numberOf, isNone, isDigits, momentAt, lastSecond, isMoment, generalReadAt, saidGeneral, putDigits, putNone, putMoment, putGeneral, fitsGeneral, momentOf, milliOf, generalOf, timeOfMoment, textTimeAt};
+ghost use Rattle.meter.specs.General.{digitsOf, runOf, numberOf, isNone, isDigits, momentAt, lastSecond, isMoment};
+ghost use Rattle.meter.specs.General.{generalReadAt, saidGeneral, fitsGeneral, WritesGeneral};
+ghost use Rattle.meter.specs.General.{putDigits, putNone, putMoment, putGeneral};
+ghost use Rattle.meter.specs.General.{momentOf, milliOf, generalOf, timeOfMoment, textTimeAt, WritesText};
 
 pub struct Moment {
     pub date: Date,
@@ -243,7 +245,7 @@ fn fits_general(long: bool, time: General) -> bool
 }
 
 pub fn write_general(room: &mut [u8], long: bool, time: General) -> Written
-    ensures { λ r. ⌜ (saidWritten r ≡ writes (now (room .entry)) (digitsOf long + 1) (fitsGeneral long time)) × (now (room .exit) ≡ wrote (now (room .entry)) (digitsOf long + 1) (fitsGeneral long time) (putGeneral (digitsOf long) (now (room .entry)) time)) ⌝ }
+    ensures { λ r. ⌜ WritesGeneral (now (room .entry)) long time r (now (room .exit)) ⌝ }
 {
     let n = digits(long);
     if !fits_general(long, time) {
@@ -295,7 +297,7 @@ fn general_of(time: Time) -> General
 
 // A day and millisecond as long text.
 pub fn time_text(room: &mut [u8], time: Time) -> Written
-    ensures { λ r. ⌜ (saidWritten r ≡ writes (now (room .entry)) 18 (isTime time)) × (now (room .exit) ≡ wrote (now (room .entry)) 18 (isTime time) (putGeneral 17 (now (room .entry)) (generalOf time))) ⌝ }
+    ensures { λ r. ⌜ WritesText (now (room .entry)) time r (now (room .exit)) ⌝ }
 {
     if !crate::time::is_time(time) {
         return Written::Refused(Refusal {

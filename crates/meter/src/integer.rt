@@ -6,8 +6,9 @@ ghost use Prim.Native.Nat.{_+_, _^_, _≤_, _<_};
 ghost use lib.Dec.{leb};
 ghost use lib.ListN.{length};
 ghost use lib.IntN.{natAbs};
-ghost use Rattle.meter.specs.Lent.{saidWritten, writes, wrote};
-ghost use Rattle.meter.specs.Integer.{beAt, stored, twos, wordOf, isWidth, topOf, halfOf, fitsUnsigned, fitsSigned, saidUnsigned, saidSigned, unsignedAt, signedAt};
+ghost use Rattle.meter.specs.Lent.{Writes};
+ghost use Rattle.meter.specs.Integer.{beAt, stored, twos, wordOf, isWidth, topOf, halfOf, fitsUnsigned, fitsSigned};
+ghost use Rattle.meter.specs.Integer.{saidUnsigned, unsignedAt, saidSigned, signedAt, WritesUnsigned, WritesSigned};
 
 pub enum Unsigned {
     Value(u64),
@@ -207,7 +208,7 @@ fn fits_signed(width: usize, z: i64) -> bool
 
 // The n low bytes of `word` at the start of the room, where what is to be written is right and the room is large enough.
 pub(crate) fn write_word(room: &mut [u8], n: usize, right: bool, word: u64) -> Written
-    ensures { λ r. ⌜ (saidWritten r ≡ writes (now (room .entry)) n right) × (now (room .exit) ≡ wrote (now (room .entry)) n right (stored (now (room .entry)) 0 n word)) ⌝ }
+    ensures { λ r. ⌜ Writes (now (room .entry)) n right (stored (now (room .entry)) 0 n word) r (now (room .exit)) ⌝ }
 {
     if !right {
         return Written::Refused(Refusal {
@@ -226,13 +227,13 @@ pub(crate) fn write_word(room: &mut [u8], n: usize, right: bool, word: u64) -> W
 }
 
 pub fn write_unsigned(room: &mut [u8], width: usize, value: u64) -> Written
-    ensures { λ r. ⌜ (saidWritten r ≡ writes (now (room .entry)) width (fitsUnsigned width value)) × (now (room .exit) ≡ wrote (now (room .entry)) width (fitsUnsigned width value) (stored (now (room .entry)) 0 width value)) ⌝ }
+    ensures { λ r. ⌜ WritesUnsigned (now (room .entry)) width value r (now (room .exit)) ⌝ }
 {
     write_word(room, width, fits_unsigned(width, value), value)
 }
 
 pub fn write_signed(room: &mut [u8], width: usize, value: i64) -> Written
-    ensures { λ r. ⌜ (saidWritten r ≡ writes (now (room .entry)) width (fitsSigned width value)) × (now (room .exit) ≡ wrote (now (room .entry)) width (fitsSigned width value) (stored (now (room .entry)) 0 width (wordOf value))) ⌝ }
+    ensures { λ r. ⌜ WritesSigned (now (room .entry)) width value r (now (room .exit)) ⌝ }
 {
     write_word(room, width, fits_signed(width, value), bits_of(value))
 }

@@ -8,9 +8,9 @@ ghost use Prim.Native.Nat.{_+_, _^_, _≤_, _<_};
 ghost use lib.Dec.{leb};
 ghost use lib.ListN.{length};
 ghost use lib.IntN.{natAbs};
-ghost use Rattle.meter.specs.Lent.{saidWritten, writes, wrote};
-ghost use Rattle.meter.specs.Integer.{isWidth, stored, twos, wordOf};
-ghost use Rattle.meter.specs.Scaled.{isScale, noneOf, isNoneWord, definedOf, scaledReadAt, saidScaled, fitsNumber, fitsScaled, putScaled};
+ghost use Rattle.meter.specs.Integer.{isWidth, twos, wordOf};
+ghost use Rattle.meter.specs.Scaled.{isScale, noneOf, isNoneWord, definedOf, scaledReadAt, saidScaled};
+ghost use Rattle.meter.specs.Scaled.{fitsNumber, WritesParts, WritesScaled};
 ghost use Rattle.meter.specs.Rounding.{isDecimals, near, signedOf, nearestOf, roundedOf, saidRounded};
 ghost use Rattle.meter.specs.Reading.{readingOf, saidReading};
 
@@ -204,7 +204,7 @@ fn none_bits(width: usize, signed: bool) -> u64
 // A scale byte and n bytes of an integer, where they are right and the room is large enough.
 fn write_parts(room: &mut [u8], n: usize, right: bool, scale: u64, word: u64) -> Written
     requires { ⌜ n ≤ 8 ⌝ }
-    ensures { λ r. ⌜ (saidWritten r ≡ writes (now (room .entry)) (1 + n) right) × (now (room .exit) ≡ wrote (now (room .entry)) (1 + n) right (stored (stored (now (room .entry)) 0 1 scale) 1 n word)) ⌝ }
+    ensures { λ r. ⌜ WritesParts (now (room .entry)) n right scale word r (now (room .exit)) ⌝ }
 {
     if !right {
         return Written::Refused(Refusal {
@@ -224,7 +224,7 @@ fn write_parts(room: &mut [u8], n: usize, right: bool, scale: u64, word: u64) ->
 }
 
 pub fn write_scaled(room: &mut [u8], width: usize, signed: bool, number: Scaled) -> Written
-    ensures { λ r. ⌜ (saidWritten r ≡ writes (now (room .entry)) (1 + width) (fitsScaled signed width number)) × (now (room .exit) ≡ wrote (now (room .entry)) (1 + width) (fitsScaled signed width number) (putScaled signed width (now (room .entry)) number)) ⌝ }
+    ensures { λ r. ⌜ WritesScaled (now (room .entry)) signed width number r (now (room .exit)) ⌝ }
 {
     if !crate::integer::is_width(width) {
         return Written::Refused(Refusal {

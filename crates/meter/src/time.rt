@@ -2,9 +2,8 @@
 use crate::integer::Written;
 use calendar::Refusal;
 ghost use mathlib.Core.Path.{_≡_};
-ghost use Rattle.meter.specs.Lent.{saidWritten, writes, wrote};
-ghost use Rattle.meter.specs.Integer.{stored};
-ghost use Rattle.meter.specs.Time.{lastMilli, isMilli, isTime, timeAt, timeReadAt, bitsOf, orderOf, compared, saidTime, saidOrder};
+ghost use Rattle.meter.specs.Time.{lastMilli, isMilli, isTime, bitsOf, timeReadAt, saidTime};
+ghost use Rattle.meter.specs.Time.{orderOf, compared, saidOrder, WritesTime};
 
 pub enum Time {
     Undefined,
@@ -87,7 +86,7 @@ fn time_bits(time: Time) -> u64
 }
 
 pub fn write_time(room: &mut [u8], time: Time) -> Written
-    ensures { λ r. ⌜ (saidWritten r ≡ writes (now (room .entry)) 6 (isTime time)) × (now (room .exit) ≡ wrote (now (room .entry)) 6 (isTime time) (stored (now (room .entry)) 0 6 (bitsOf time))) ⌝ }
+    ensures { λ r. ⌜ WritesTime (now (room .entry)) time r (now (room .exit)) ⌝ }
 {
     crate::integer::write_word(room, 6, is_time(time), time_bits(time))
 }

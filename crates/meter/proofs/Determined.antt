@@ -128,6 +128,9 @@ unique-time-order t u = fixes saidOrder unsaidOrder order-back (compared t u)
 pub unique-read-general : (long : Bool) (a : List ℕ) (at : ℕ) (r s : GeneralRead) → saidGeneral r ≡ generalReadAt long a at → saidGeneral s ≡ generalReadAt long a at → r ≡ s
 unique-read-general long a at = fixes saidGeneral unsaidGeneral general-back (generalReadAt long a at)
 
+pub unique-fits-general : (long : Bool) (t : General) (r s : Bool) → r ≡ fitsGeneral long t → s ≡ fitsGeneral long t → r ≡ s
+unique-fits-general long t = only (fitsGeneral long t)
+
 pub unique-text-time : (a : List ℕ) (at : ℕ) (r s : TimeRead) → saidTime r ≡ textTimeAt a at → saidTime s ≡ textTimeAt a at → r ≡ s
 unique-text-time a at = fixes saidTime unsaidTime time-back (textTimeAt a at)
 
@@ -141,7 +144,7 @@ pub unique-reading-of : (x : Scaled) (r s : Shown) → saidReading r ≡ reading
 unique-reading-of x = fixes saidReading unsaidReading reading-back (readingOf x)
 
 -- ---- the writers: of a room, the answer and the room at exit
-one-writing : (room : List ℕ) (n : ℕ) (right : Bool) (new : List ℕ) (r s : Written) (p q : List ℕ) → Writes room n right new r p → Writes room n right new s q → (r ≡ s) × (p ≡ q)
+pub one-writing : (room : List ℕ) (n : ℕ) (right : Bool) (new : List ℕ) (r s : Written) (p q : List ℕ) → Writes room n right new r p → Writes room n right new s q → (r ≡ s) × (p ≡ q)
 one-writing room n right new r s p q x y = (fixes saidWritten unsaidWritten written-back (writes room n right) r s (x .0) (y .0), only (wrote room n right new) p q (x .1) (y .1))
 
 pub unique-write-unsigned : (room : List ℕ) (n v : ℕ) (r s : Written) (p q : List ℕ) → WritesUnsigned room n v r p → WritesUnsigned room n v s q → (r ≡ s) × (p ≡ q)

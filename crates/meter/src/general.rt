@@ -227,7 +227,8 @@ fn put_general(room: &mut [u8], n: usize, time: General)
     }
 }
 
-fn fits_general(long: bool, time: General) -> bool
+// Whether a time can be written: a moment of the calendar, and with no millisecond in the short form.
+pub fn fits_general(long: bool, time: General) -> bool
     ensures { λ r. ⌜ r ≡ fitsGeneral long time ⌝ }
 {
     match time {

@@ -1,0 +1,6 @@
+pub mod FieldLaws
+pub mod HeaderLaws
+pub mod PointerLaws
+pub mod FollowLaws
+pub mod ReadsBack
+pub mod Determined

@@ -1,0 +1,181 @@
+-- READING BACK: a header or a pointer record that is written reads back as it was, one that was read is written back as the bytes that it was
+-- read from, and the other bytes of the room are kept. By the row of its fields (FieldLaws). Assumes nothing.
+use mathlib.Core.Path.{_≡_, refl, sym, ap, _∙_}
+use mathlib.Core.Bool.{true}
+use mathlib.Core.List.{List, [], _∷_, _++_}
+use Prim.Native.Nat.{ℕ, _+_, _%_, _^_, _≤_, _<_}
+use native.Mathlib.Nat.{mod-eq-of-lt}
+use native.Mathlib.Omega.{arith}
+use borrow.Author.Tests.{le-leb, leb-true}
+use lib.ListN.{length, getD}
+use Rattle.calendar.specs.Said.{answer}
+use Rattle.meter.specs.Lent.{inside}
+use Rattle.meter.specs.Integer.{beAt, stored}
+use Rattle.meter.specs.Time.{isTime, bitsOf, timeOf, timeAt, timeReadAt}
+use Rattle.meter.specs.declared.time.Time.{Time}
+use Rattle.meter.specs.declared.time.Time.the-variants as T
+use Rattle.meter.proofs.IntegerLaws.{back, beAt-lt, beAt-same}
+use Rattle.meter.proofs.TimeLaws.{Writable, bits-back}
+use Rattle.meter.proofs.ReadsBack.{reads-answer, time-again}
+use Rattle.record.specs.Header.{isHeader, headerAt, headerReadAt, putHeader}
+use Rattle.record.specs.Pointer.{isPointer, pointerAt, pointerReadAt, putPointer}
+use Rattle.record.specs.declared.header.Header.{Header}
+use Rattle.record.specs.declared.pointer.Pointer.{Pointer}
+use Rattle.record.proofs.FieldLaws.{part-inside, byte-is, Field, field, put, Held, put-length, put-after, put-held, held-again, held-left}
+use Rattle.record.proofs.HeaderLaws.{header-parts}
+use Rattle.record.proofs.PointerLaws.{pointer-header}
+
+-- ---- the fields of a header, one after another
+abbrev fieldsOf : Header → List Field
+fieldsOf h =
+    field 1 (h .class) ∷ field 1 (h .group) ∷ field 1 (h .subclass) ∷ field 1 (h .version) ∷ field 4 (h .size) ∷ field 6 (bitsOf (h .start)) ∷ field 6 (bitsOf (h .stop)) ∷ []
+
+header-fields : (a : List ℕ) (h : Header) → putHeader a h ≡ put a 0 (fieldsOf h)
+unfolding putHeader
+header-fields a h = refl
+
+-- the ranges that the types of the fields give
+abbrev pub DayFits : Time → Type 0
+DayFits T.Undefined = Unit
+DayFits (T.At day ms) = day < 65536
+
+pub record Typed (h : Header) : Type 0 where
+  pub class : h .class < 256
+  pub group : h .group < 256
+  pub subclass : h .subclass < 256
+  pub version : h .version < 256
+  pub size : h .size < 0x1_0000_0000
+  pub start : DayFits (h .start)
+  pub stop : DayFits (h .stop)
+
+writable : (t : Time) → DayFits t → isTime t ≡ true → Writable t
+writable T.Undefined d e = refl
+writable (T.At day ms) d e = (d, e)
+
+-- ---- what is held, read
+byte-held : (t : List ℕ) (i v : ℕ) → v < 256 → v % 256 ^ 1 ≡ beAt t i 1 → getD t i 0 ≡ v
+byte-held t i v h e = sym (byte-is t i) ∙ sym e ∙ mod-eq-of-lt h
+
+time-held : (t : List ℕ) (i : ℕ) (u : Time) → Writable u → bitsOf u % 256 ^ 6 ≡ beAt t i 6 → timeAt t i ≡ u
+time-held t i u w e = ap timeOf (sym e ∙ mod-eq-of-lt (bits-back u w .0)) ∙ bits-back u w .1
+
+header-held : (t : List ℕ) (h : Header) → isHeader h ≡ true → Typed h → Held t 0 0 (fieldsOf h) → headerAt t 0 ≡ h
+unfolding headerAt
+header-held t h r y e =
+    let p = header-parts h r in
+    let c = byte-held t 0 (h .class) (y .class) (e .0) in
+    let g = byte-held t 1 (h .group) (y .group) (e .1 .0) in
+    let s = byte-held t 2 (h .subclass) (y .subclass) (e .1 .1 .0) in
+    let v = byte-held t 3 (h .version) (y .version) (e .1 .1 .1 .0) in
+    let z : beAt t 4 4 ≡ h .size = sym (e .1 .1 .1 .1 .0) ∙ mod-eq-of-lt (y .size) in
+    let u = time-held t 8 (h .start) (writable (h .start) (y .start) (p .1)) (e .1 .1 .1 .1 .1 .0) in
+    let w = time-held t 14 (h .stop) (writable (h .stop) (y .stop) (p .2)) (e .1 .1 .1 .1 .1 .1 .0) in
+    rw (c, g, s, v, z, u, w)
+
+-- ---- what is read, held
+read-byte : (t : List ℕ) (i : ℕ) → ((k : ℕ) → getD t k 0 < 256) → getD t i 0 % 256 ^ 1 ≡ beAt t i 1
+read-byte t i b = mod-eq-of-lt (b i) ∙ sym (byte-is t i)
+
+read-word : (t : List ℕ) (i : ℕ) → ((k : ℕ) → getD t k 0 < 256) → beAt t i 4 % 256 ^ 4 ≡ beAt t i 4
+read-word t i b = mod-eq-of-lt (beAt-lt t b i 4)
+
+read-time : (room t : List ℕ) (i : ℕ) → ((k : ℕ) → getD t k 0 < 256) → 6 ≤ length room → inside t i 6 ≡ true → isTime (timeAt t i) ≡ true → bitsOf (timeAt t i) % 256 ^ 6 ≡ beAt t i 6
+read-time room t i b h n r =
+    let u = timeAt t i in
+    let e : timeReadAt t i ≡ answer u = rw (n, r) in
+    sym (back room 0 6 (bitsOf u) h) ∙ beAt-same (stored room 0 6 (bitsOf u)) t 0 i 6 (λ k l. let z : 0 + k ≡ k = omega arith in rw z (time-again room t i u b h e k l))
+
+read-header : (room b : List ℕ) (at : ℕ) → ((k : ℕ) → getD b k 0 < 256) → 6 ≤ length room → inside b at 20 ≡ true → isHeader (headerAt b at) ≡ true → Held b at 0 (fieldsOf (headerAt b at))
+unfolding headerAt
+read-header room b at bytes h i r =
+    let p = header-parts (headerAt b at) r in
+    let z : at + 0 ≡ at = omega arith in
+    let start = read-time room b (at + 8) bytes h (part-inside b at 20 8 6 i (omega arith)) (p .1) in
+    let stop = read-time room b (at + 14) bytes h (part-inside b at 20 14 6 i (omega arith)) (p .2) in
+    (rw z (read-byte b at bytes), (read-byte b (at + 1) bytes, (read-byte b (at + 2) bytes, (read-byte b (at + 3) bytes, (read-word b (at + 4) bytes, (start, (stop, tt)))))))
+
+-- ---- HEADERS
+pub header-back : (a : List ℕ) (h : Header) → isHeader h ≡ true → Typed h → 20 ≤ length a → headerReadAt (putHeader a h) 0 ≡ answer h
+header-back a h r y l =
+    let f = header-fields a h in
+    let b = put a 0 (fieldsOf h) in
+    let e : headerAt b 0 ≡ h = header-held b h r y (put-held a 0 (fieldsOf h) l) in
+    let i : inside b 0 20 ≡ true = le-leb 20 (length b) (omega (arith, put-length a 0 (fieldsOf h))) in
+    rw (f, i, e, r)
+
+pub header-again : (room b : List ℕ) (at : ℕ) (h : Header) → ((k : ℕ) → getD b k 0 < 256) → 20 ≤ length room → headerReadAt b at ≡ answer h → (k : ℕ) → k < 20 → getD (putHeader room h) k 0 ≡ getD b (at + k) 0
+header-again room b at h bytes l e k m =
+    let r = reads-answer b at 20 (isHeader (headerAt b at)) (headerAt b at) h e in
+    let held = read-header room b at bytes (omega arith) (r .0) (r .1) in
+    let x : 0 + k ≡ k = omega arith in
+    let y : at + 0 + k ≡ at + k = omega arith in
+    let g = rw (x, y) at (held-again room b at 0 (fieldsOf (headerAt b at)) bytes l held k m) in
+    rw (← r .2, header-fields room (headerAt b at)) g
+
+pub header-length : (room : List ℕ) (h : Header) → length (putHeader room h) ≡ length room
+header-length room h = ap length (header-fields room h) ∙ put-length room 0 (fieldsOf h)
+
+pub header-kept : (room : List ℕ) (h : Header) (j : ℕ) → 20 ≤ j → getD (putHeader room h) j 0 ≡ getD room j 0
+header-kept room h j l = ap (λ (s : List ℕ). getD s j 0) (header-fields room h) ∙ put-after room 0 (fieldsOf h) j l
+
+-- ---- POINTER RECORDS
+abbrev targetOf : Pointer → List Field
+targetOf p = field 1 (p .class) ∷ field 1 (p .group) ∷ field 1 (p .subclass) ∷ field 4 (p .offset) ∷ []
+
+abbrev pointerFields : Pointer → List Field
+pointerFields p = fieldsOf (p .header) ++ targetOf p
+
+pointer-fields : (a : List ℕ) (p : Pointer) → putPointer a p ≡ put a 0 (pointerFields p)
+unfolding putPointer putHeader
+pointer-fields a p = refl
+
+pub record TypedPointer (p : Pointer) : Type 0 where
+  pub header : Typed (p .header)
+  pub class : p .class < 256
+  pub group : p .group < 256
+  pub subclass : p .subclass < 256
+  pub offset : p .offset < 0x1_0000_0000
+
+pointer-held : (t : List ℕ) (p : Pointer) → isPointer p ≡ true → TypedPointer p → Held t 0 0 (pointerFields p) → pointerAt t 0 ≡ p
+unfolding pointerAt
+pointer-held t p r y e =
+    let x = e .1 .1 .1 .1 .1 .1 .1 in
+    let h = header-held t (p .header) (pointer-header p r) (y .header) (held-left t 0 0 (fieldsOf (p .header)) (targetOf p) e) in
+    let c = byte-held t 20 (p .class) (y .class) (x .0) in
+    let g = byte-held t 21 (p .group) (y .group) (x .1 .0) in
+    let s = byte-held t 22 (p .subclass) (y .subclass) (x .1 .1 .0) in
+    let z : beAt t 23 4 ≡ p .offset = sym (x .1 .1 .1 .0) ∙ mod-eq-of-lt (y .offset) in
+    rw (h, c, g, s, z)
+
+read-pointer : (room b : List ℕ) (at : ℕ) → ((k : ℕ) → getD b k 0 < 256) → 6 ≤ length room → inside b at 27 ≡ true → isPointer (pointerAt b at) ≡ true → Held b at 0 (pointerFields (pointerAt b at))
+unfolding pointerAt
+read-pointer room b at bytes h i r =
+    let n : inside b at 20 ≡ true = le-leb (at + 20) (length b) (omega (arith, leb-true (at + 27) (length b) i)) in
+    let e = read-header room b at bytes h n (pointer-header (pointerAt b at) r) in
+    let x = e .1 .1 .1 .1 in (
+      e .0,
+      (e .1 .0, (e .1 .1 .0, (e .1 .1 .1 .0, (x .0, (x .1 .0, (x .1 .1 .0, (read-byte b (at + 20) bytes, (read-byte b (at + 21) bytes, (read-byte b (at + 22) bytes, (read-word b (at + 23) bytes, tt)))))))))),
+    )
+
+pub pointer-back : (a : List ℕ) (p : Pointer) → isPointer p ≡ true → TypedPointer p → 27 ≤ length a → pointerReadAt (putPointer a p) 0 ≡ answer p
+pointer-back a p r y l =
+    let f = pointer-fields a p in
+    let b = put a 0 (pointerFields p) in
+    let e : pointerAt b 0 ≡ p = pointer-held b p r y (put-held a 0 (pointerFields p) l) in
+    let i : inside b 0 27 ≡ true = le-leb 27 (length b) (omega (arith, put-length a 0 (pointerFields p))) in
+    rw (f, i, e, r)
+
+pub pointer-again : (room b : List ℕ) (at : ℕ) (p : Pointer) → ((k : ℕ) → getD b k 0 < 256) → 27 ≤ length room → pointerReadAt b at ≡ answer p → (k : ℕ) → k < 27 → getD (putPointer room p) k 0 ≡ getD b (at + k) 0
+pointer-again room b at p bytes l e k m =
+    let r = reads-answer b at 27 (isPointer (pointerAt b at)) (pointerAt b at) p e in
+    let held = read-pointer room b at bytes (omega arith) (r .0) (r .1) in
+    let x : 0 + k ≡ k = omega arith in
+    let y : at + 0 + k ≡ at + k = omega arith in
+    let g = rw (x, y) at (held-again room b at 0 (pointerFields (pointerAt b at)) bytes l held k m) in
+    rw (← r .2, pointer-fields room (pointerAt b at)) g
+
+pub pointer-length : (room : List ℕ) (p : Pointer) → length (putPointer room p) ≡ length room
+pointer-length room p = ap length (pointer-fields room p) ∙ put-length room 0 (pointerFields p)
+
+pub pointer-kept : (room : List ℕ) (p : Pointer) (j : ℕ) → 27 ≤ j → getD (putPointer room p) j 0 ≡ getD room j 0
+pointer-kept room p j l = ap (λ (s : List ℕ). getD s j 0) (pointer-fields room p) ∙ put-after room 0 (pointerFields p) j l

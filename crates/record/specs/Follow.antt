@@ -1,0 +1,14 @@
+-- Which class of record may follow which (01, "Record header, 20 bytes": "after 1: 2..8; after 2 or 3: 3..8; after 4 or 5: 4..8; after 6 or 7:
+-- 6..8; after 8: 8"). Assumes nothing.
+use Prim.Native.Nat.{ℕ}
+use mathlib.Core.Bool.{Bool, cond, _&&_, _||_}
+use lib.Dec.{eqb, leb}
+
+-- the first class that may follow, and 9, which is no class, after what is no class
+unfoldable pub firstAfter : ℕ → ℕ
+firstAfter c =
+    cond (eqb c 1) 2 (cond (eqb c 2 || eqb c 3) 3 (cond (eqb c 4 || eqb c 5) 4 (cond (eqb c 6 || eqb c 7) 6 (cond (eqb c 8) 8 9))))
+
+-- from that one up to 8
+unfoldable pub mayFollow : ℕ → ℕ → Bool
+mayFollow last next = leb (firstAfter last) next && leb next 8

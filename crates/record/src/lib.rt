@@ -1,0 +1,6 @@
+// Record headers, pointer records, and which class of record may follow which.
+pub use calendar::Refusal;
+
+pub mod follow;
+pub mod header;
+pub mod pointer;

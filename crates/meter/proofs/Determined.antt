@@ -40,11 +40,11 @@ use Rattle.meter.specs.declared.scaled.Shown.{Shown}
 use Rattle.meter.specs.declared.scaled.Shown.the-variants as M
 
 -- ---- each answer is made again from what it says
-abbrev unsaidWritten : Said ℕ → Written
+abbrev pub unsaidWritten : Said ℕ → Written
 unsaidWritten (answer x) = W.Bytes x
 unsaidWritten (refusal n p) = W.Refused (refusing n p)
 
-written-back : (r : Written) → unsaidWritten (saidWritten r) ≡ r
+pub written-back : (r : Written) → unsaidWritten (saidWritten r) ≡ r
 written-back (W.Bytes x) = refl
 written-back (W.Refused r) = refl
 

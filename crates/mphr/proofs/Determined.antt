@@ -1,0 +1,58 @@
+-- DETERMINED: no second answer, and no second room at exit, fits a promise of this crate. The main header's fault is a theorem of Prefix
+-- (`unique-header-fault`); the others are equations through what an answer says. Assumes nothing.
+use mathlib.Core.Path.{_≡_, refl}
+use mathlib.Core.Bool.{Bool}
+use mathlib.Core.List.{List}
+use Prim.Native.Nat.{ℕ, _+_}
+use Rattle.calendar.specs.Said.{Said, answer, refusal, refusing}
+use Rattle.calendar.proofs.Determined.{fixes, only}
+use Rattle.meter.specs.Lent.{wrote, saidWritten}
+use Rattle.meter.specs.declared.integer.Written.{Written}
+use Rattle.meter.specs.declared.general.General.{General}
+use Rattle.meter.proofs.Determined.{unsaidWritten, written-back}
+use Rattle.meter.specs.General.{digitsOf, putGeneral}
+use Rattle.text.specs.Writing.{putNumber, putText}
+use Rattle.text.specs.declared.Number.{Number}
+use Rattle.mphr.specs.Layout.{widthOf, kindOf, fieldOf, saidPlace}
+use Rattle.mphr.specs.Lookup.{fieldNamed, saidField}
+use Rattle.mphr.specs.Lines.{isLong, textOn, numberOn, timeOn, putLine, writesLine, WritesLine, WritesTextLine, WritesNumberLine, WritesTimeLine}
+use Rattle.mphr.specs.declared.layout.Place.{Place}
+use Rattle.mphr.specs.declared.layout.FieldPlace.{FieldPlace}
+use Rattle.mphr.specs.declared.layout.FieldPlace.the-variants as P
+use Rattle.mphr.specs.declared.names.FieldNumber.{FieldNumber}
+use Rattle.mphr.specs.declared.names.FieldNumber.the-variants as F
+
+abbrev unsaidPlace : Said Place → FieldPlace
+unsaidPlace (answer x) = P.Place x
+unsaidPlace (refusal n p) = P.Refused (refusing n p)
+
+place-back : (r : FieldPlace) → unsaidPlace (saidPlace r) ≡ r
+place-back (P.Place x) = refl
+place-back (P.Refused r) = refl
+
+abbrev unsaidField : Said ℕ → FieldNumber
+unsaidField (answer x) = F.Field x
+unsaidField (refusal n p) = F.Refused (refusing n p)
+
+field-back : (r : FieldNumber) → unsaidField (saidField r) ≡ r
+field-back (F.Field x) = refl
+field-back (F.Refused r) = refl
+
+pub unique-field-place : (k : ℕ) (r s : FieldPlace) → saidPlace r ≡ fieldOf k → saidPlace s ≡ fieldOf k → r ≡ s
+unique-field-place k = fixes saidPlace unsaidPlace place-back (fieldOf k)
+
+pub unique-field-named : (name : List ℕ) (r s : FieldNumber) → saidField r ≡ fieldNamed name → saidField s ≡ fieldNamed name → r ≡ s
+unique-field-named name = fixes saidField unsaidField field-back (fieldNamed name)
+
+one-line : (room : List ℕ) (k : ℕ) (right : Bool) (put : List ℕ → List ℕ) (r s : Written) (p q : List ℕ) → WritesLine room k right put r p → WritesLine room k right put s q → (r ≡ s) × (p ≡ q)
+one-line room k right put r s p q x y =
+    (fixes saidWritten unsaidWritten written-back (writesLine room (widthOf k + 33) right) r s (x .0) (y .0), only (wrote room (widthOf k + 33) right (putLine k put room)) p q (x .1) (y .1))
+
+pub unique-write-text-line : (room : List ℕ) (k : ℕ) (t : List ℕ) (r s : Written) (p q : List ℕ) → WritesTextLine room k t r p → WritesTextLine room k t s q → (r ≡ s) × (p ≡ q)
+unique-write-text-line room k t = one-line room k (textOn k t) (λ (a : List ℕ). putText a t)
+
+pub unique-write-number-line : (room : List ℕ) (k : ℕ) (x : Number) (r s : Written) (p q : List ℕ) → WritesNumberLine room k x r p → WritesNumberLine room k x s q → (r ≡ s) × (p ≡ q)
+unique-write-number-line room k x = one-line room k (numberOn k x) (λ (a : List ℕ). putNumber (widthOf k) a x)
+
+pub unique-write-time-line : (room : List ℕ) (k : ℕ) (t : General) (r s : Written) (p q : List ℕ) → WritesTimeLine room k t r p → WritesTimeLine room k t s q → (r ≡ s) × (p ≡ q)
+unique-write-time-line room k t = one-line room k (timeOn k t) (λ (a : List ℕ). putGeneral (digitsOf (isLong (kindOf k))) a t)

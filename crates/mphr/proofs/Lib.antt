@@ -1,0 +1,10 @@
+pub mod LayoutLaws
+pub mod NameLaws
+pub mod LineLaws
+pub mod FirstLaws
+pub mod TurnLaws
+pub mod Prefix
+pub mod Export
+pub mod WritingLaws
+pub mod LineBack
+pub mod Determined

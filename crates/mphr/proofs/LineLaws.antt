@@ -1,0 +1,107 @@
+-- A line by the code's tests: its name, "= " and line feed, its value, and the numbers of the size and the totals. By rewriting with each
+-- test that led there; the kinds of those ten lines are computed. Assumes nothing.
+use mathlib.Core.Path.{_≡_, refl, sym, ap, _∙_}
+use mathlib.Core.Bool.{Bool, true, false, _&&_}
+use mathlib.Core.List.{List}
+use Prim.Native.Nat.{ℕ, suc, _+_, _*_, _≤_, _<_}
+use native.Mathlib.Omega.{arith}
+use lib.Dec.{T, eqb, eqb→eq}
+use lib.ListN.{length, getD}
+use borrow.Author.Tests.{eq-eqb, ne-eqb, le-leb}
+use Rattle.calendar.proofs.Range.{below, at}
+use Rattle.meter.specs.General.{lead}
+use Rattle.meter.specs.Lent.{inside}
+use Rattle.meter.proofs.GeneralRuns.{lead-is}
+use Rattle.text.specs.Field.{isNumber, isValue}
+use Rattle.text.specs.declared.Kind.{Kind}
+use Rattle.text.specs.declared.Kind.the-variants.{Text, Unsigned, Count, Signed, Time, LongTime}
+use Rattle.mphr.specs.Table.{named, framed, valued}
+use Rattle.mphr.specs.Layout.{fields, widths, kinds, names, widthOf, kindOf, lineStart}
+use Rattle.mphr.proofs.LayoutLaws.{start-28, total-start}
+
+-- ---- a line's name, "= " and line feed, in the code's names
+module _ (a : List ℕ) (k p j : ℕ) (e : p ≡ lineStart k) (f : (i : ℕ) → i < j → getD a (p + i) 0 ≡ getD names (30 * k + i) 0) where
+  led : j ≤ 30 → (j < 30 → getD a (p + j) 0 ≡ getD names (30 * k + j) 0 → ⊥) → lead (λ (i : ℕ). eqb (getD a (lineStart k + i) 0) (getD names (30 * k + i) 0)) 30 ≡ j
+  led h d =
+      lead-is (λ (i : ℕ). eqb (getD a (lineStart k + i) 0) (getD names (30 * k + i) 0)) 30 j h
+      (λ i l. eq-eqb _ _ (rw e at (f i l)))
+      (λ l. ne-eqb _ _ (rw e at (d l)))
+
+  pub name-no : j < 30 → (getD a (p + j) 0 ≡ getD names (30 * k + j) 0 → ⊥) → false ≡ named a k
+  unfolding named
+  name-no h d = rw (led (omega arith) (λ _. d)) (sym (ne-eqb j 30 (λ q. omega arith)))
+
+  pub name-yes : j ≡ 30 → true ≡ named a k
+  unfolding named
+  name-yes h = rw (led (omega arith) (λ l. absurd (omega arith))) (sym (eq-eqb j 30 h))
+
+module _ (a : List ℕ) (k p w : ℕ) (e : p ≡ lineStart k) (f : w ≡ widthOf k) where
+  pub frame-name : named a k ≡ false → false ≡ framed a k
+  unfolding framed
+  frame-name n = rw n
+
+  module _ (n : named a k ≡ true) where
+    pub frame-equals : (getD a (p + 30) 0 ≡ 61 → ⊥) → false ≡ framed a k
+    unfolding framed
+    frame-equals d = rw (n, ← e, ne-eqb (getD a (p + 30) 0) 61 d)
+
+    module _ (q : getD a (p + 30) 0 ≡ 61) where
+      pub frame-space : (getD a (p + 31) 0 ≡ 32 → ⊥) → false ≡ framed a k
+      unfolding framed
+      frame-space d = rw (n, ← e, eq-eqb (getD a (p + 30) 0) 61 q, ne-eqb (getD a (p + 31) 0) 32 d)
+
+      pub frame-feed : getD a (p + 31) 0 ≡ 32 → eqb (getD a (p + 32 + w) 0) 10 ≡ framed a k
+      unfolding framed
+      frame-feed s = rw (n, ← e, ← f, eq-eqb (getD a (p + 30) 0) 61 q, eq-eqb (getD a (p + 31) 0) 32 s)
+
+  pub value-is : (d : Kind) (r : Bool) → d ≡ kindOf k → p + w + 33 ≤ length a → r ≡ inside a (p + 32) w && isValue d a (p + 32) w → r ≡ valued a k
+  unfolding valued
+  value-is d r g l h =
+      let i : inside a (p + 32) w ≡ true = le-leb (p + 32 + w) (length a) (omega arith) in
+      h ∙ rw (i, e, f, g)
+
+-- ---- the size and the totals
+isCount : Kind → Bool
+isCount Text = false
+isCount Unsigned = false
+isCount Count = true
+isCount Signed = false
+isCount Time = false
+isCount LongTime = false
+
+count-is : (d : Kind) (a : List ℕ) (i w : ℕ) → T (isCount d) → isValue d a i w ≡ isNumber false a i w
+unfolding isCount isValue
+count-is Text a i w t = absurd t
+count-is Unsigned a i w t = absurd t
+count-is Count a i w t = refl
+count-is Signed a i w t = absurd t
+count-is Time a i w t = absurd t
+count-is LongTime a i w t = absurd t
+
+size-kind : T (isCount (kindOf 28))
+unfolding isCount kindOf kinds fields
+size-kind = tt
+
+size-width : widthOf 28 ≡ 11
+unfolding widthOf widths fields
+size-width = refl
+
+pub size-number : (a : List ℕ) → valued a 28 ≡ true → isNumber false a 1485 11 ≡ true
+unfolding valued
+size-number a v =
+    let s : lineStart 28 + 32 ≡ 1485 = omega (arith, start-28) in
+    sym (count-is (kindOf 28) a 1485 11 size-kind) ∙ rw (s, size-width) at v
+
+total-kinds : T (below (λ (j : ℕ). isCount (kindOf (55 + j))) 9)
+unfolding isCount kindOf kinds fields
+total-kinds = tt
+
+total-widths : T (below (λ (j : ℕ). eqb (widthOf (55 + j)) 6) 9)
+unfolding widthOf widths fields
+total-widths = tt
+
+pub total-number : (a : List ℕ) (j : ℕ) → j < 9 → valued a (55 + j) ≡ true → isNumber false a (2675 + 39 * j) 6 ≡ true
+unfolding valued
+total-number a j h v =
+    let w : widthOf (55 + j) ≡ 6 = eqb→eq (widthOf (55 + j)) 6 (at (λ (j : ℕ). eqb (widthOf (55 + j)) 6) 9 total-widths j h) in
+    sym (count-is (kindOf (55 + j)) a (2675 + 39 * j) 6 (at (λ (j : ℕ). isCount (kindOf (55 + j))) 9 total-kinds j h)) ∙ rw (total-start j h, w) at v

@@ -1,0 +1,73 @@
+-- `mphr::faults::later` meets its contract: each way out by its tests. Assumes nothing.
+use Rattle.mphr.specs.Table.{declared}
+use mathlib.Core.Logic.{inl, inr}
+use native.Mathlib.Omega.{arith}
+use mathlib.Core.Path.{_≡_, refl, sym, ap, _∙_, subst}
+use Rattle.mphr.proofs.faults.later.Statement.{statement}
+use Rattle.mphr.proofs.faults.later.Tie as tie
+
+count-at-requires : tie.Need-count-at-requires
+count-at-requires c κs = let p = c .before .before .pre .0 (c .if1 .taken) in (omega arith, omega (arith, p .0), p .1)
+
+returns : tie.Need-returns
+unfolding declared
+returns c =
+    let k = c .before .before .if1 .taken in
+    record { four = λ _. (k, inl (omega (arith, c .before .count-at .ensures .0))); five = λ e. absurd (omega arith); size = λ n. absurd (n refl); totals = λ _ e. absurd (omega arith) }
+
+returns-2 : tie.Need-returns-2
+unfolding declared
+returns-2 c =
+    let k = c .before .before .before .if1 .taken in
+    record { four = λ _. (k, inr (omega (arith, c .before .before .count-at .ensures .0))); five = λ e. absurd (omega arith); size = λ n. absurd (n refl); totals = λ _ e. absurd (omega arith) }
+
+returns-3 : tie.Need-returns-3
+unfolding declared
+returns-3 c =
+    let k = c .before .before .before .if1 .taken in
+    record { four = λ e. absurd (omega arith); five = λ e. absurd (omega arith); size = λ _ _. omega (arith, c .before .before .count-at .ensures .0); totals = λ _ e. absurd (omega arith) }
+
+total-of-requires : tie.Need-total-of-requires
+total-of-requires c κs = (omega arith, c .before .before .before .pre .1 (c .if4 .taken))
+
+returns-4 : tie.Need-returns-4
+returns-4 c = let k = c .before .before .if4 .taken in record { four = λ e. absurd (omega arith); five = λ _. (k, λ s. c .if5 .taken (c .before .total-of .ensures .0 ∙ s .main)); size = λ _ e. absurd (omega arith); totals = λ n. absurd (n refl) }
+
+total-of-requires-2 : tie.Need-total-of-requires-2
+total-of-requires-2 c κs = (omega arith, c .before .before .before .before .before .pre .1 (c .before .before .if4 .taken))
+
+returns-5 : tie.Need-returns-5
+returns-5 c = let k = c .before .before .before .before .if4 .taken in record { four = λ e. absurd (omega arith); five = λ _. (k, λ s. omega (arith, s .second)); size = λ _ e. absurd (omega arith); totals = λ n. absurd (n refl) }
+
+total-of-requires-3 : tie.Need-total-of-requires-3
+total-of-requires-3 c κs = (omega arith, c .before .before .before .before .before .before .before .pre .1 (c .before .before .before .before .if4 .taken))
+
+sum-of-requires : tie.Need-sum-of-requires
+sum-of-requires c κs = c .before .before .before .before .before .before .before .before .pre .1 (c .before .before .before .before .before .if4 .taken)
+
+returns-6 : tie.Need-returns-6
+returns-6 c = let k = c .before .before .before .before .before .before .before .if4 .taken in record { four = λ e. absurd (omega arith); five = λ _. (k, λ s. c .if7 .taken (c .before .before .total-of3 .ensures .0 ∙ s .all ∙ sym (c .before .sum-of .ensures))); size = λ _ e. absurd (omega arith); totals = λ n. absurd (n refl) }
+
+returns-7 : tie.Need-returns-7
+returns-7 c = let k = c .before .before .before .before .before .before .before .if4 .taken in record { four = λ e. absurd (omega arith); five = λ e. absurd (omega arith); size = λ _ e. absurd (omega arith); totals = λ _ _. record { main = sym (c .before .before .before .before .before .before .total-of .ensures .0) ∙ c .before .before .before .before .before .if5 .left; second = omega arith; all = sym (c .before .before .total-of3 .ensures .0) ∙ c .if7 .left ∙ c .before .sum-of .ensures } }
+
+returns-8 : tie.Need-returns-8
+returns-8 c = record { four = λ e. absurd (omega arith); five = λ e. absurd (omega arith); size = λ _ e. absurd (omega arith); totals = λ _ e. absurd (omega arith) }
+
+pub later-spec : {M : Type 1} → statement M
+later-spec =
+    tie.close
+    (tie.spec
+    count-at-requires
+    returns
+    returns-2
+    returns-3
+    total-of-requires
+    returns-4
+    total-of-requires-2
+    returns-5
+    total-of-requires-3
+    sum-of-requires
+    returns-6
+    returns-7
+    returns-8)

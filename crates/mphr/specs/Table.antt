@@ -1,0 +1,128 @@
+-- The faults of the main product header: rows 1 to 5 of 01's table ("Numbers we answer with"), and row 10 at the first record. Byte i of
+-- an arrival is `getD a i 0`; a fault that looks at a byte that has not come is shown at a longer arrival, so it is not given.
+-- Assumes nothing.
+use Prim.Native.Nat.{ℕ, zero, suc, _+_, _*_, _≤_, _<_}
+use mathlib.Core.Path.{_≡_}
+use mathlib.Core.Bool.{Bool, true, false, not, _&&_}
+use mathlib.Core.Logic.{_⊎_}
+use mathlib.Core.List.{List}
+use lib.Dec.{eqb}
+use lib.ListN.{length, getD}
+use Rattle.calendar.specs.Said.{Said, answer, refusal}
+use Rattle.meter.specs.Integer.{beAt}
+use Rattle.meter.specs.Time.{timeAt, isTime, compared}
+use Rattle.meter.specs.General.{lead, numberOf}
+use Rattle.meter.specs.declared.time.Order.{Order}
+use Rattle.meter.specs.declared.time.Order.the-variants as O
+use Rattle.text.specs.Field.{isValue}
+use Rattle.mphr.specs.Layout.{names, widthOf, kindOf, lineStart}
+
+-- the order of two times is that the first comes after the second
+abbrev pub isAfter : Said Order → Bool
+isAfter (answer O.After) = true
+isAfter (answer O.Before) = false
+isAfter (answer O.Same) = false
+isAfter (refusal n p) = false
+
+-- row 1: the first header is of class 1, group 0, subclass 0 and size 3307
+unfoldable pub headed : List ℕ → Bool
+headed a = (eqb (getD a 0 0) 1 && (eqb (getD a 1 0) 0 && eqb (getD a 2 0) 0)) && eqb (beAt a 4 4) 3307
+
+-- row 10: both times are right, and the start is not after the stop where both are defined
+unfoldable pub timed : List ℕ → Bool
+timed a = (isTime (timeAt a 8) && isTime (timeAt a 14)) && not (isAfter (compared (timeAt a 8) (timeAt a 14)))
+
+-- row 2: the name, "= " and the line feed of line k are right
+unfoldable pub named : List ℕ → ℕ → Bool
+named a k = eqb (lead (λ (j : ℕ). eqb (getD a (lineStart k + j) 0) (getD names (30 * k + j) 0)) 30) 30
+
+unfoldable pub framed : List ℕ → ℕ → Bool
+framed a k =
+    (named a k && (eqb (getD a (lineStart k + 30) 0) 61 && eqb (getD a (lineStart k + 31) 0) 32)) && eqb (getD a (lineStart k + 32 + widthOf k) 0) 10
+
+-- row 3: the value of line k is of its kind
+unfoldable pub valued : List ℕ → ℕ → Bool
+valued a k = isValue (kindOf k) a (lineStart k + 32) (widthOf k)
+
+-- D, the size that the product declares: the number of line 28
+unfoldable pub declared : List ℕ → ℕ
+declared a = numberOf a 1485 11
+
+-- the totals: 0 of the records, and 1 to 8 of each class; line 55 has the first
+unfoldable pub total : List ℕ → ℕ → ℕ
+total a j = numberOf a (2675 + 39 * j) 6
+
+-- the sum of the totals 1 to n
+unfoldable pub sum : List ℕ → ℕ → ℕ
+sum a zero = 0
+sum a (suc n) = sum a n + total a (n + 1)
+
+-- row 5: TOTAL_MPHR is 1, TOTAL_SPHR at most 1, and TOTAL_RECORDS the sum of the other eight
+pub record Sums (a : List ℕ) : Type 0 where
+  pub main : total a 1 ≡ 1
+  pub second : total a 2 ≤ 1
+  pub all : total a 0 ≡ sum a 8
+
+-- what is given of a fault: its number, its place, and the length of the shortest arrival that shows it
+pub record Row : Type 0 where
+  pub number : ℕ
+  pub place : ℕ
+  pub shown : ℕ
+
+abbrev pub fault : ℕ → ℕ → ℕ → Row
+fault n p k = record { number = n; place = p; shown = k }
+
+-- THE TABLE, the rows of a line
+pub data WrongLine (a : List ℕ) (k : ℕ) : Type 0 where
+  bad-frame : framed a k ≡ false → WrongLine a k
+  bad-value : valued a k ≡ false → WrongLine a k
+
+abbrev pub rowLine : {a : List ℕ} {k : ℕ} → WrongLine a k → Row
+rowLine {k = k} (bad-frame _) = fault 2 (lineStart k) (lineStart (suc k))
+rowLine {k = k} (bad-value _) = fault 3 (lineStart k + 32) (lineStart (suc k))
+
+-- THE TABLE, of the main product header. 4 and 5 are judged of well-formed numbers only; 10 at the first record exists always
+pub data Fault (a : List ℕ) : Type 0 where
+  bad-header : headed a ≡ false → Fault a
+  bad-line : (k : ℕ) → k < 72 → WrongLine a k → Fault a
+  bad-size : valued a 28 ≡ true → (declared a < 3307) ⊎ (2147483647 < declared a) → Fault a
+  bad-totals : ((j : ℕ) → j < 9 → valued a (55 + j) ≡ true) → (Sums a → ⊥) → Fault a
+  bad-times : timed a ≡ false → Fault a
+
+abbrev pub row : {a : List ℕ} → Fault a → Row
+row (bad-header _) = fault 1 0 20
+row (bad-line k _ w) = rowLine w
+row (bad-size _ _) = fault 4 1485 1497
+row (bad-totals _ _) = fault 5 2675 2994
+row (bad-times _) = fault 10 0 20
+
+abbrev pub number : {a : List ℕ} → Fault a → ℕ
+number f = row f .number
+
+abbrev pub place : {a : List ℕ} → Fault a → ℕ
+place f = row f .place
+
+abbrev pub shown : {a : List ℕ} → Fault a → ℕ
+shown f = row f .shown
+
+-- THE RULE: f goes before g, or is as good
+pub record Before (f g : Row) : Type 0 where
+  pub sooner : f .shown ≤ g .shown
+  pub lower : f .shown ≡ g .shown → f .number ≤ g .number
+  pub nearer : f .shown ≡ g .shown → f .number ≡ g .number → f .place ≤ g .place
+
+-- the refusal (n, p) is given
+pub record Given (a : List ℕ) (n p : ℕ) : Type 0 where
+  pub fault : Fault a
+  pub numbered : number fault ≡ n
+  pub placed : place fault ≡ p
+  pub seen : shown fault ≤ length a
+  pub best : (g : Fault a) → shown g ≤ length a → Before (row fault) (row g)
+
+-- no fault is shown
+abbrev pub Clean : List ℕ → Type 0
+Clean a = (g : Fault a) → shown g ≤ length a → ⊥
+
+-- the header has none of the faults 1 to 5, on which all that follows it rests
+abbrev pub Fine : List ℕ → Type 0
+Fine a = (g : Fault a) → number g ≤ 5 → ⊥

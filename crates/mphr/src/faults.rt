@@ -1,0 +1,234 @@
+// The first of the faults 1 to 5 and 10 that an arrival shows of its main product header: one pass over its lines, which stops at the
+// first line that has not wholly come.
+use crate::layout::kind;
+use crate::layout::name_byte;
+use crate::layout::width;
+use calendar::Refusal;
+use meter::integer::Unsigned;
+use meter::time::Order;
+use meter::time::TimeOrder;
+use meter::time::TimeRead;
+use text::Number;
+use text::NumberRead;
+ghost use mathlib.Core.Path.{_≡_};
+ghost use mathlib.Core.Bool.{true, false};
+ghost use Prim.Native.Nat.{_+_, _^_, _≤_, _<_};
+ghost use lib.ListN.{length};
+ghost use Rattle.meter.specs.General.{numberOf};
+ghost use Rattle.text.specs.Field.{isNumber};
+ghost use Rattle.mphr.specs.Layout.{widthOf, lineStart};
+ghost use Rattle.mphr.specs.Table.{headed, timed, named, framed, declared, total, sum};
+ghost use Rattle.mphr.specs.Turning.{Later, Counts, Ready, TurnedIs, refusedAt, FirstIs};
+
+// The first fault that is shown, or none.
+pub enum HeaderFault {
+    Clean,
+    Refused(Refusal),
+}
+
+// What a line comes to.
+enum Turned {
+    Stop(HeaderFault),
+    Go(usize),
+}
+
+fn is_headed(s: &[u8]) -> bool
+    requires { ⌜ 20 ≤ length (now s) ⌝ }
+    ensures { λ r. ⌜ r ≡ headed (now (s .entry)) ⌝ }
+{
+    if s[0] != 1 {
+        return false;
+    }
+    if s[1] != 0 {
+        return false;
+    }
+    if s[2] != 0 {
+        return false;
+    }
+    match meter::integer::read_unsigned(s, 4, 4) {
+        Unsigned::Value(size) => size == 3307,
+        Unsigned::Refused(_) => false,
+    }
+}
+
+fn is_timed(s: &[u8]) -> bool
+    requires { ⌜ 20 ≤ length (now s) ⌝ }
+    ensures { λ r. ⌜ r ≡ timed (now (s .entry)) ⌝ }
+{
+    let TimeRead::Time(start) = meter::time::read_time(s, 8) else {
+        return false;
+    };
+    let TimeRead::Time(stop) = meter::time::read_time(s, 14) else {
+        return false;
+    };
+    match meter::time::time_order(start, stop) {
+        TimeOrder::Refused(_) => true,
+        TimeOrder::Order(o) => match o {
+            Order::Before => true,
+            Order::Same => true,
+            Order::After => false,
+        },
+    }
+}
+
+fn is_named(s: &[u8], k: usize, at: usize) -> bool
+    requires { ⌜ (k < 72) × (at ≡ lineStart k) × (at + 30 ≤ length (now s)) ⌝ }
+    ensures { λ r. ⌜ r ≡ named (now (s .entry)) k ⌝ }
+{
+    let mut j: usize = 0;
+    while j < 30 {
+        if s[at + j] != name_byte(30 * k + j) {
+            return false;
+        }
+        j += 1;
+    }
+    true
+}
+
+fn is_framed(s: &[u8], k: usize, at: usize, w: usize) -> bool
+    requires { ⌜ (k < 72) × (at ≡ lineStart k) × (w ≡ widthOf k) × (at + w + 33 ≤ length (now s)) ⌝ }
+    ensures { λ r. ⌜ r ≡ framed (now (s .entry)) k ⌝ }
+{
+    if !is_named(s, k, at) {
+        return false;
+    }
+    if s[at + 30] != 61 {
+        return false;
+    }
+    if s[at + 31] != 32 {
+        return false;
+    }
+    s[at + 32 + w] == 10
+}
+
+// The number of a field that is one: the size or a total.
+fn count_at(s: &[u8], at: usize, w: usize) -> u64
+    requires { ⌜ (w ≤ 17) × (at + w ≤ length (now s)) × (isNumber false (now s) at w ≡ true) ⌝ }
+    ensures { λ r. ⌜ (r ≡ numberOf (now (s .entry)) at w) × (r < 10 ^ w) ⌝ }
+{
+    let NumberRead::Number(n) = text::read_number(s, at, w, false) else {
+        return 0;
+    };
+    let Number::Whole(z) = n else {
+        return 0;
+    };
+    z as u64
+}
+
+// The total of a class, or of all records at 0.
+fn total_of(s: &[u8], j: usize) -> u64
+    requires { ⌜ (j ≤ 8) × Counts (now s) ⌝ }
+    ensures { λ r. ⌜ (r ≡ total (now (s .entry)) j) × (r < 1000000) ⌝ }
+{
+    count_at(s, 2675 + 39 * j, 6)
+}
+
+fn sum_of(s: &[u8]) -> u64
+    requires { ⌜ Counts (now s) ⌝ }
+    ensures { λ r. ⌜ r ≡ sum (now (s .entry)) 8 ⌝ }
+{
+    let mut v: u64 = 0;
+    let mut j: usize = 0;
+    while j < 8 {
+        v = v + total_of(s, j + 1);
+        j += 1;
+    }
+    v
+}
+
+// The faults of the size and of the totals, where line k is the last that they look at.
+fn later(s: &[u8], k: usize) -> usize
+    requires { ⌜ (k ≡ 28 → (1497 ≤ length (now s)) × (isNumber false (now s) 1485 11 ≡ true)) × (k ≡ 63 → Counts (now s)) ⌝ }
+    ensures { λ r. ⌜ Later (now (s .entry)) k r ⌝ }
+{
+    if k == 28 {
+        let d = count_at(s, 1485, 11);
+        if d < 3307 {
+            return 4;
+        }
+        if 2147483647 < d {
+            return 4;
+        }
+        return 0;
+    }
+    if k == 63 {
+        if total_of(s, 1) != 1 {
+            return 5;
+        }
+        if 1 < total_of(s, 2) {
+            return 5;
+        }
+        if total_of(s, 0) != sum_of(s) {
+            return 5;
+        }
+        return 0;
+    }
+    0
+}
+
+fn refused(number: u8, place: usize) -> Turned
+    ensures { λ r. ⌜ r ≡ refusedAt number place ⌝ }
+{
+    Turned::Stop(HeaderFault::Refused(Refusal { number, place }))
+}
+
+// One line.
+fn turn(s: &[u8], k: usize, at: usize) -> Turned
+    requires { ⌜ Ready (now s) k at ⌝ }
+    ensures { λ r. ⌜ TurnedIs (now (s .entry)) k r ⌝ }
+{
+    let w = width(k);
+    let to = at + w + 33;
+    if s.len() < to {
+        return Turned::Stop(HeaderFault::Clean);
+    }
+    if !is_framed(s, k, at, w) {
+        return refused(2, at);
+    }
+    if !text::is_value(s, at + 32, w, kind(k)) {
+        return refused(3, at + 32);
+    }
+    let h = later(s, k);
+    if h == 4 {
+        return refused(4, 1485);
+    }
+    if h == 5 {
+        return refused(5, 2675);
+    }
+    Turned::Go(to)
+}
+
+// The first fault that an arrival shows of the main product header: shown earliest, then of the lowest number, then at the lowest place.
+pub fn header_fault(s: &[u8]) -> HeaderFault
+    ensures { λ r. ⌜ FirstIs (now (s .entry)) r ⌝ }
+{
+    if s.len() < 20 {
+        return HeaderFault::Clean;
+    }
+    if !is_headed(s) {
+        return HeaderFault::Refused(Refusal {
+            number: 1,
+            place: 0,
+        });
+    }
+    if !is_timed(s) {
+        return HeaderFault::Refused(Refusal {
+            number: 10,
+            place: 0,
+        });
+    }
+    let mut k: usize = 0;
+    let mut at: usize = 20;
+    while k < 72 {
+        match turn(s, k, at) {
+            Turned::Stop(f) => {
+                return f;
+            }
+            Turned::Go(to) => {
+                at = to;
+                k += 1;
+            }
+        }
+    }
+    HeaderFault::Clean
+}

@@ -1,0 +1,363 @@
+// Where each of the 72 lines stands, what it is called, and of which kind and width its value is.
+use calendar::Refusal;
+use text::Kind;
+ghost use mathlib.Core.Path.{_≡_};
+ghost use Prim.Native.Nat.{_≤_, _<_};
+ghost use lib.ListN.{getD};
+ghost use Rattle.mphr.specs.Layout.{names, widthOf, kindOf, lineStart, fieldOf, saidPlace};
+
+// A field: where its line starts, how wide its value is, and of which kind.
+pub struct Place {
+    pub start: usize,
+    pub width: usize,
+    pub kind: Kind,
+}
+
+pub enum FieldPlace {
+    Place(Place),
+    Refused(Refusal),
+}
+
+const NAMES: [u8; 2160] = *b"\
+PRODUCT_NAME                  \
+PARENT_PRODUCT_NAME_1         \
+PARENT_PRODUCT_NAME_2         \
+PARENT_PRODUCT_NAME_3         \
+PARENT_PRODUCT_NAME_4         \
+INSTRUMENT_ID                 \
+INSTRUMENT_MODEL              \
+PRODUCT_TYPE                  \
+PROCESSING_LEVEL              \
+SPACECRAFT_ID                 \
+SENSING_START                 \
+SENSING_END                   \
+SENSING_START_THEORETICAL     \
+SENSING_END_THEORETICAL       \
+PROCESSING_CENTRE             \
+PROCESSOR_MAJOR_VERSION       \
+PROCESSOR_MINOR_VERSION       \
+FORMAT_MAJOR_VERSION          \
+FORMAT_MINOR_VERSION          \
+PROCESSING_TIME_START         \
+PROCESSING_TIME_END           \
+PROCESSING_MODE               \
+DISPOSITION_MODE              \
+RECEIVING_GROUND_STATION      \
+RECEIVE_TIME_START            \
+RECEIVE_TIME_END              \
+ORBIT_START                   \
+ORBIT_END                     \
+ACTUAL_PRODUCT_SIZE           \
+STATE_VECTOR_TIME             \
+SEMI_MAJOR_AXIS               \
+ECCENTRICITY                  \
+INCLINATION                   \
+PERIGEE_ARGUMENT              \
+RIGHT_ASCENSION               \
+MEAN_ANOMALY                  \
+X_POSITION                    \
+Y_POSITION                    \
+Z_POSITION                    \
+X_VELOCITY                    \
+Y_VELOCITY                    \
+Z_VELOCITY                    \
+EARTH_SUN_DISTANCE_RATIO      \
+LOCATION_TOLERANCE_RADIAL     \
+LOCATION_TOLERANCE_CROSSTRACK \
+LOCATION_TOLERANCE_ALONGTRACK \
+YAW_ERROR                     \
+ROLL_ERROR                    \
+PITCH_ERROR                   \
+SUBSAT_LATITUDE_START         \
+SUBSAT_LONGITUDE_START        \
+SUBSAT_LATITUDE_END           \
+SUBSAT_LONGITUDE_END          \
+LEAP_SECOND                   \
+LEAP_SECOND_UTC               \
+TOTAL_RECORDS                 \
+TOTAL_MPHR                    \
+TOTAL_SPHR                    \
+TOTAL_IPR                     \
+TOTAL_GEADR                   \
+TOTAL_GIADR                   \
+TOTAL_VEADR                   \
+TOTAL_VIADR                   \
+TOTAL_MDR                     \
+COUNT_DEGRADED_INST_MDR       \
+COUNT_DEGRADED_PROC_MDR       \
+COUNT_DEGRADED_INST_MDR_BLOCKS\
+COUNT_DEGRADED_PROC_MDR_BLOCKS\
+DURATION_OF_PRODUCT           \
+MILLISECONDS_OF_DATA_PRESENT  \
+MILLISECONDS_OF_DATA_MISSING  \
+SUBSETTED_PRODUCT             ";
+
+const WIDTHS: [usize; 72] = [
+    67,
+    67,
+    67,
+    67,
+    67,
+    4,
+    3,
+    3,
+    2,
+    3,
+    15,
+    15,
+    15,
+    15,
+    4,
+    5,
+    5,
+    5,
+    5,
+    15,
+    15,
+    1,
+    1,
+    3,
+    15,
+    15,
+    5,
+    5,
+    11,
+    18,
+    11,
+    11,
+    11,
+    11,
+    11,
+    11,
+    11,
+    11,
+    11,
+    11,
+    11,
+    11,
+    11,
+    11,
+    11,
+    11,
+    11,
+    11,
+    11,
+    11,
+    11,
+    11,
+    11,
+    2,
+    15,
+    6,
+    6,
+    6,
+    6,
+    6,
+    6,
+    6,
+    6,
+    6,
+    6,
+    6,
+    6,
+    6,
+    8,
+    8,
+    8,
+    1,
+];
+
+const STARTS: [usize; 72] = [
+    20,
+    120,
+    220,
+    320,
+    420,
+    520,
+    557,
+    593,
+    629,
+    664,
+    700,
+    748,
+    796,
+    844,
+    892,
+    929,
+    967,
+    1005,
+    1043,
+    1081,
+    1129,
+    1177,
+    1211,
+    1245,
+    1281,
+    1329,
+    1377,
+    1415,
+    1453,
+    1497,
+    1548,
+    1592,
+    1636,
+    1680,
+    1724,
+    1768,
+    1812,
+    1856,
+    1900,
+    1944,
+    1988,
+    2032,
+    2076,
+    2120,
+    2164,
+    2208,
+    2252,
+    2296,
+    2340,
+    2384,
+    2428,
+    2472,
+    2516,
+    2560,
+    2595,
+    2643,
+    2682,
+    2721,
+    2760,
+    2799,
+    2838,
+    2877,
+    2916,
+    2955,
+    2994,
+    3033,
+    3072,
+    3111,
+    3150,
+    3191,
+    3232,
+    3273,
+];
+
+const KINDS: [Kind; 72] = [
+    Kind::Text,
+    Kind::Text,
+    Kind::Text,
+    Kind::Text,
+    Kind::Text,
+    Kind::Text,
+    Kind::Text,
+    Kind::Text,
+    Kind::Text,
+    Kind::Text,
+    Kind::Time,
+    Kind::Time,
+    Kind::Time,
+    Kind::Time,
+    Kind::Text,
+    Kind::Unsigned,
+    Kind::Unsigned,
+    Kind::Unsigned,
+    Kind::Unsigned,
+    Kind::Time,
+    Kind::Time,
+    Kind::Text,
+    Kind::Text,
+    Kind::Text,
+    Kind::Time,
+    Kind::Time,
+    Kind::Unsigned,
+    Kind::Unsigned,
+    Kind::Count,
+    Kind::LongTime,
+    Kind::Signed,
+    Kind::Signed,
+    Kind::Signed,
+    Kind::Signed,
+    Kind::Signed,
+    Kind::Signed,
+    Kind::Signed,
+    Kind::Signed,
+    Kind::Signed,
+    Kind::Signed,
+    Kind::Signed,
+    Kind::Signed,
+    Kind::Signed,
+    Kind::Signed,
+    Kind::Signed,
+    Kind::Signed,
+    Kind::Signed,
+    Kind::Signed,
+    Kind::Signed,
+    Kind::Signed,
+    Kind::Signed,
+    Kind::Signed,
+    Kind::Signed,
+    Kind::Signed,
+    Kind::Time,
+    Kind::Count,
+    Kind::Count,
+    Kind::Count,
+    Kind::Count,
+    Kind::Count,
+    Kind::Count,
+    Kind::Count,
+    Kind::Count,
+    Kind::Count,
+    Kind::Unsigned,
+    Kind::Unsigned,
+    Kind::Unsigned,
+    Kind::Unsigned,
+    Kind::Unsigned,
+    Kind::Unsigned,
+    Kind::Unsigned,
+    Kind::Text,
+];
+
+pub(crate) fn name_byte(k: usize) -> u8
+    requires { ⌜ k < 2160 ⌝ }
+    ensures { λ r. ⌜ r ≡ getD names k 0 ⌝ }
+{
+    NAMES[k]
+}
+
+pub(crate) fn width(k: usize) -> usize
+    requires { ⌜ k < 72 ⌝ }
+    ensures { λ r. ⌜ (r ≡ widthOf k) × (r ≤ 67) ⌝ }
+{
+    WIDTHS[k]
+}
+
+pub(crate) fn start(k: usize) -> usize
+    requires { ⌜ k < 72 ⌝ }
+    ensures { λ r. ⌜ r ≡ lineStart k ⌝ }
+{
+    STARTS[k]
+}
+
+pub(crate) fn kind(k: usize) -> Kind
+    requires { ⌜ k < 72 ⌝ }
+    ensures { λ r. ⌜ r ≡ kindOf k ⌝ }
+{
+    KINDS[k]
+}
+
+// The place of a field by its number; 22 where the number is not 0 to 71.
+pub fn field_place(k: usize) -> FieldPlace
+    ensures { λ r. ⌜ saidPlace r ≡ fieldOf k ⌝ }
+{
+    if k > 71 {
+        return FieldPlace::Refused(Refusal {
+            number: 22,
+            place: 0,
+        });
+    }
+    FieldPlace::Place(Place {
+        start: start(k),
+        width: width(k),
+        kind: kind(k),
+    })
+}

@@ -5,3 +5,4 @@ pub mod General
 pub mod Scaled
 pub mod Rounding
 pub mod Reading
+pub mod Host

@@ -3,6 +3,7 @@
 pub use calendar::Refusal;
 
 pub mod general;
+pub mod host;
 pub mod integer;
 pub mod scaled;
 pub mod time;

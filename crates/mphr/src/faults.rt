@@ -1,7 +1,7 @@
 // The first of the faults 1 to 5 and 10 that an arrival shows of its main product header: one pass over its lines, which stops at the
 // first line that has not wholly come.
+use crate::layout::NAMES;
 use crate::layout::kind;
-use crate::layout::name_byte;
 use crate::layout::width;
 use calendar::Refusal;
 use meter::integer::Unsigned;
@@ -75,9 +75,11 @@ fn is_named(s: &[u8], k: usize, at: usize) -> bool
     requires { ⌜ (k < 72) × (at ≡ lineStart k) × (at + 30 ≤ length (now s)) ⌝ }
     ensures { λ r. ⌜ r ≡ named (now (s .entry)) k ⌝ }
 {
+    // Once to a line: a const array is copied where it is named.
+    let names = NAMES;
     let mut j: usize = 0;
     while j < 30 {
-        if s[at + j] != name_byte(30 * k + j) {
+        if s[at + j] != names[30 * k + j] {
             return false;
         }
         j += 1;

@@ -18,7 +18,7 @@ pub enum FieldPlace {
     Refused(Refusal),
 }
 
-const NAMES: [u8; 2160] = *b"\
+pub(crate) const NAMES: [u8; 2160] = *b"\
 PRODUCT_NAME                  \
 PARENT_PRODUCT_NAME_1         \
 PARENT_PRODUCT_NAME_2         \

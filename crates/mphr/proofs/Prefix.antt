@@ -1,7 +1,7 @@
 -- THE PREFIX LAW of the main header: a fault that is shown at k depends on the first k bytes alone, so a refusal stays for every longer
 -- arrival; and one answer at most is right. Each test looks only at bytes of its line. Assumes nothing.
 use mathlib.Core.Path.{_≡_, refl, sym, ap, _∙_}
-use mathlib.Core.Bool.{Bool, true, false, not, _&&_}
+use mathlib.Core.Bool.{Bool, true, false}
 use mathlib.Core.Logic.{_⊎_, inl, inr, ⊎-elim}
 use mathlib.Core.List.{List, _++_}
 use Prim.Native.Nat.{ℕ, zero, suc, _+_, _*_, _≤_, _<_}
@@ -13,14 +13,12 @@ use Rattle.calendar.specs.Said.{refusing}
 use Rattle.calendar.specs.declared.Refusal.{Refusal}
 use Rattle.meter.specs.General.{lead}
 use Rattle.meter.specs.Integer.{beAt}
-use Rattle.meter.specs.Time.{timeOf, timeAt, isTime, compared}
-use Rattle.meter.specs.declared.time.Time.{Time}
 use Rattle.meter.proofs.IntegerLaws.{beAt-same}
+use Rattle.record.proofs.TimesLaws.{timed-same as timed-at-same}
 use Rattle.text.proofs.Alike.{lead-cong}
 use Rattle.text.proofs.Same.{Same, same-back, number-same, value-same}
 use Rattle.mphr.specs.Layout.{names, widthOf, kindOf, lineStart}
-use Rattle.mphr.specs.Table.{isAfter, headed, timed, named, framed, valued, declared, total, sum, Sums, Row, WrongLine, bad-frame, bad-value, Fault, bad-header, bad-line, bad-size, bad-totals, bad-times, row, number, place, shown, Before, Given, Clean, Fine}
-use Rattle.mphr.specs.Turning.{FirstIs}
+use Rattle.mphr.specs.Table.{headed, timed, named, framed, valued, declared, total, sum, Sums, Row, WrongLine, bad-frame, bad-value, Fault, bad-header, bad-line, bad-size, bad-totals, bad-times, row, number, place, shown, Before, Given, Clean, Fine, FirstIs}
 use Rattle.mphr.specs.declared.faults.HeaderFault.{HeaderFault}
 use Rattle.mphr.specs.declared.faults.HeaderFault.the-variants as F
 use Rattle.mphr.proofs.LayoutLaws.{start-next, total-start, start-mono, start-64, start-29}
@@ -30,18 +28,12 @@ module _ (a b : List ℕ) (k : ℕ) (same : Same a b k) where
   be-same : (i n : ℕ) → i + n ≤ k → beAt a i n ≡ beAt b i n
   be-same i n h = beAt-same a b i i n (λ j l. same .byte (i + j) (omega arith))
 
-  time-same : (i : ℕ) → i + 6 ≤ k → timeAt a i ≡ timeAt b i
-  time-same i h = ap timeOf (be-same i 6 h)
-
   headed-same : 20 ≤ k → headed a ≡ headed b
   unfolding headed
   headed-same h = rw (same .byte 0 (omega arith), same .byte 1 (omega arith), same .byte 2 (omega arith), be-same 4 4 (omega arith))
 
   timed-same : 20 ≤ k → timed a ≡ timed b
-  unfolding timed
-  timed-same h =
-      ap (λ (t : Time). (isTime t && isTime (timeAt a 14)) && not (isAfter (compared t (timeAt a 14)))) (time-same 8 (omega arith))
-      ∙ ap (λ (t : Time). (isTime (timeAt b 8) && isTime t) && not (isAfter (compared (timeAt b 8) t))) (time-same 14 (omega arith))
+  timed-same h = timed-at-same a b 0 (λ j l. same .byte j (omega arith))
 
   named-same : (l : ℕ) → lineStart l + 30 ≤ k → named a l ≡ named b l
   unfolding named

@@ -3,34 +3,26 @@
 -- Assumes nothing.
 use Prim.Native.Nat.{ℕ, zero, suc, _+_, _*_, _≤_, _<_}
 use mathlib.Core.Path.{_≡_}
-use mathlib.Core.Bool.{Bool, true, false, not, _&&_}
+use mathlib.Core.Bool.{Bool, true, false, _&&_}
 use mathlib.Core.Logic.{_⊎_}
 use mathlib.Core.List.{List}
 use lib.Dec.{eqb}
 use lib.ListN.{length, getD}
-use Rattle.calendar.specs.Said.{Said, answer, refusal}
 use Rattle.meter.specs.Integer.{beAt}
-use Rattle.meter.specs.Time.{timeAt, isTime, compared}
 use Rattle.meter.specs.General.{lead, numberOf}
-use Rattle.meter.specs.declared.time.Order.{Order}
-use Rattle.meter.specs.declared.time.Order.the-variants as O
+use Rattle.record.specs.Times.{timedAt}
 use Rattle.text.specs.Field.{isValue}
 use Rattle.mphr.specs.Layout.{names, widthOf, kindOf, lineStart}
-
--- the order of two times is that the first comes after the second
-abbrev pub isAfter : Said Order → Bool
-isAfter (answer O.After) = true
-isAfter (answer O.Before) = false
-isAfter (answer O.Same) = false
-isAfter (refusal n p) = false
+use Rattle.mphr.specs.declared.faults.HeaderFault.{HeaderFault}
+use Rattle.mphr.specs.declared.faults.HeaderFault.the-variants as F
 
 -- row 1: the first header is of class 1, group 0, subclass 0 and size 3307
 unfoldable pub headed : List ℕ → Bool
 headed a = (eqb (getD a 0 0) 1 && (eqb (getD a 1 0) 0 && eqb (getD a 2 0) 0)) && eqb (beAt a 4 4) 3307
 
 -- row 10: both times are right, and the start is not after the stop where both are defined
-unfoldable pub timed : List ℕ → Bool
-timed a = (isTime (timeAt a 8) && isTime (timeAt a 14)) && not (isAfter (compared (timeAt a 8) (timeAt a 14)))
+abbrev pub timed : List ℕ → Bool
+timed a = timedAt a 0
 
 -- row 2: the name, "= " and the line feed of line k are right
 unfoldable pub named : List ℕ → ℕ → Bool
@@ -126,3 +118,8 @@ Clean a = (g : Fault a) → shown g ≤ length a → ⊥
 -- the header has none of the faults 1 to 5, on which all that follows it rests
 abbrev pub Fine : List ℕ → Type 0
 Fine a = (g : Fault a) → number g ≤ 5 → ⊥
+
+-- what is right to answer of an arrival's main header
+abbrev pub FirstIs : List ℕ → HeaderFault → Type 0
+FirstIs a F.Clean = Clean a
+FirstIs a (F.Refused r) = Given a (r .number) (r .place)

@@ -9,8 +9,7 @@ use lib.ListN.{length, getD}
 use Rattle.calendar.specs.Said.{refusing}
 use Rattle.text.specs.Field.{isNumber}
 use Rattle.mphr.specs.Layout.{widthOf, lineStart}
-use Rattle.mphr.specs.Table.{declared, Sums, Fault, bad-header, bad-line, bad-size, bad-totals, bad-times, Given, Clean}
-use Rattle.mphr.specs.declared.faults.HeaderFault.{HeaderFault}
+use Rattle.mphr.specs.Table.{declared, Sums, Fault, bad-header, bad-line, bad-size, bad-totals, bad-times, FirstIs}
 use Rattle.mphr.specs.declared.faults.HeaderFault.the-variants as F
 use Rattle.mphr.specs.declared.faults.Turned.{Turned}
 use Rattle.mphr.specs.declared.faults.Turned.the-variants.{Stop, Go}
@@ -44,10 +43,6 @@ pub record Ready (a : List ℕ) (k at : ℕ) : Type 0 where
   pub at-is : at ≡ lineStart k
   pub come : at ≤ length a
   pub past : Past a k
-
-abbrev pub FirstIs : List ℕ → HeaderFault → Type 0
-FirstIs a F.Clean = Clean a
-FirstIs a (F.Refused r) = Given a (r .number) (r .place)
 
 pub record Gone (a : List ℕ) (k to : ℕ) : Type 0 where
   pub to-is : to ≡ lineStart (suc k)

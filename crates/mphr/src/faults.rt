@@ -5,9 +5,6 @@ use crate::layout::kind;
 use crate::layout::width;
 use calendar::Refusal;
 use meter::integer::Unsigned;
-use meter::time::Order;
-use meter::time::TimeOrder;
-use meter::time::TimeRead;
 use text::Number;
 use text::NumberRead;
 ghost use mathlib.Core.Path.{_≡_};
@@ -17,8 +14,8 @@ ghost use lib.ListN.{length};
 ghost use Rattle.meter.specs.General.{numberOf};
 ghost use Rattle.text.specs.Field.{isNumber};
 ghost use Rattle.mphr.specs.Layout.{widthOf, lineStart};
-ghost use Rattle.mphr.specs.Table.{headed, timed, named, framed, declared, total, sum};
-ghost use Rattle.mphr.specs.Turning.{Later, Counts, Ready, TurnedIs, refusedAt, FirstIs};
+ghost use Rattle.mphr.specs.Table.{headed, named, framed, declared, total, sum, FirstIs};
+ghost use Rattle.mphr.specs.Turning.{Later, Counts, Ready, TurnedIs, refusedAt};
 
 // The first fault that is shown, or none.
 pub enum HeaderFault {
@@ -48,26 +45,6 @@ fn is_headed(s: &[u8]) -> bool
     match meter::integer::read_unsigned(s, 4, 4) {
         Unsigned::Value(size) => size == 3307,
         Unsigned::Refused(_) => false,
-    }
-}
-
-fn is_timed(s: &[u8]) -> bool
-    requires { ⌜ 20 ≤ length (now s) ⌝ }
-    ensures { λ r. ⌜ r ≡ timed (now (s .entry)) ⌝ }
-{
-    let TimeRead::Time(start) = meter::time::read_time(s, 8) else {
-        return false;
-    };
-    let TimeRead::Time(stop) = meter::time::read_time(s, 14) else {
-        return false;
-    };
-    match meter::time::time_order(start, stop) {
-        TimeOrder::Refused(_) => true,
-        TimeOrder::Order(o) => match o {
-            Order::Before => true,
-            Order::Same => true,
-            Order::After => false,
-        },
     }
 }
 
@@ -213,7 +190,7 @@ pub fn header_fault(s: &[u8]) -> HeaderFault
             place: 0,
         });
     }
-    if !is_timed(s) {
+    if !record::times::times_stand(s, 0) {
         return HeaderFault::Refused(Refusal {
             number: 10,
             place: 0,

@@ -8,9 +8,10 @@ use Rattle.calendar.specs.Said.{Said, answer, refusal, refusing}
 use Rattle.calendar.proofs.Determined.{fixes, only}
 use Rattle.meter.specs.declared.integer.Written.{Written}
 use Rattle.meter.proofs.Determined.{one-writing}
-use Rattle.record.specs.Header.{isHeader, headerReadAt, saidHeader, putHeader, WritesHeader}
+use Rattle.record.specs.Header.{isClass, isGroup, isHeader, headerReadAt, saidHeader, putHeader, WritesHeader}
 use Rattle.record.specs.Pointer.{isPointer, pointerReadAt, saidPointer, putPointer, WritesPointer}
 use Rattle.record.specs.Follow.{mayFollow}
+use Rattle.record.specs.Times.{timesStand}
 use Rattle.record.specs.declared.header.Header.{Header}
 use Rattle.record.specs.declared.header.HeaderRead.{HeaderRead}
 use Rattle.record.specs.declared.header.HeaderRead.the-variants as H
@@ -35,7 +36,7 @@ pointer-back : (r : PointerRead) → unsaidPointer (saidPointer r) ≡ r
 pointer-back (P.Pointer x) = refl
 pointer-back (P.Refused r) = refl
 
--- ---- the readers and the follow rule
+-- ---- the readers, the tests and the follow rule
 pub unique-read-header : (a : List ℕ) (at : ℕ) (r s : HeaderRead) → saidHeader r ≡ headerReadAt a at → saidHeader s ≡ headerReadAt a at → r ≡ s
 unique-read-header a at = fixes saidHeader unsaidHeader header-back (headerReadAt a at)
 
@@ -44,6 +45,15 @@ unique-read-pointer a at = fixes saidPointer unsaidPointer pointer-back (pointer
 
 pub unique-may-follow : (last next : ℕ) (r s : Bool) → r ≡ mayFollow last next → s ≡ mayFollow last next → r ≡ s
 unique-may-follow last next = only (mayFollow last next)
+
+pub unique-is-class : (c : ℕ) (r s : Bool) → r ≡ isClass c → s ≡ isClass c → r ≡ s
+unique-is-class c = only (isClass c)
+
+pub unique-is-group : (g : ℕ) (r s : Bool) → r ≡ isGroup g → s ≡ isGroup g → r ≡ s
+unique-is-group g = only (isGroup g)
+
+pub unique-times-stand : (a : List ℕ) (at : ℕ) (r s : Bool) → r ≡ timesStand a at → s ≡ timesStand a at → r ≡ s
+unique-times-stand a at = only (timesStand a at)
 
 -- ---- the writers: of a room, the answer and the room at exit
 pub unique-write-header : (room : List ℕ) (h : Header) (r s : Written) (p q : List ℕ) → WritesHeader room h r p → WritesHeader room h s q → (r ≡ s) × (p ≡ q)

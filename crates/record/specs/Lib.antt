@@ -1,3 +1,4 @@
 pub mod Header
 pub mod Pointer
 pub mod Follow
+pub mod Times

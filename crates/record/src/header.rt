@@ -50,7 +50,7 @@ pub(crate) fn word_at(bytes: &[u8], at: usize) -> u32
 }
 
 // A class of 002's Table 13: MPHR, SPHR, IPR, GEADR, GIADR, VEADR, VIADR, MDR.
-fn is_class(class: u8) -> bool
+pub fn is_class(class: u8) -> bool
     ensures { λ r. ⌜ r ≡ isClass class ⌝ }
 {
     if class < 1 {
@@ -60,7 +60,7 @@ fn is_class(class: u8) -> bool
 }
 
 // A group of 002's Table 14. It has no 14: an archive record is 99.
-fn is_group(group: u8) -> bool
+pub fn is_group(group: u8) -> bool
     ensures { λ r. ⌜ r ≡ isGroup group ⌝ }
 {
     if group <= 13 {

@@ -4,3 +4,4 @@ pub use calendar::Refusal;
 pub mod follow;
 pub mod header;
 pub mod pointer;
+pub mod times;

@@ -25,7 +25,7 @@ use Rattle.mphr.proofs.LayoutLaws.{start-next, total-start, start-mono,
 use Rattle.mphr.proofs.TurnLaws.{shown-most}
 
 module _ (a b : List ℕ) (k : ℕ) (same : Same a b k) where
-  be-same : (i n : ℕ) → i + n ≤ k → beAt a i n ≡ beAt b i n
+  pub be-same : (i n : ℕ) → i + n ≤ k → beAt a i n ≡ beAt b i n
   be-same i n h = beAt-same a b i i n (λ j l. same .byte (i + j) (omega arith))
 
   headed-same : 20 ≤ k → headed a ≡ headed b
@@ -49,11 +49,11 @@ module _ (a b : List ℕ) (k : ℕ) (same : Same a b k) where
   unfolding valued
   valued-same l g h = let e = start-next l in value-same same (kindOf l) (lineStart l + 32) (widthOf l) (omega arith)
 
-  declared-same : 1497 ≤ k → declared a ≡ declared b
+  pub declared-same : 1497 ≤ k → declared a ≡ declared b
   unfolding declared
   declared-same h = number-same same 1485 11 (omega arith)
 
-  total-same : 2994 ≤ k → (j : ℕ) → j ≤ 8 → total a j ≡ total b j
+  pub total-same : 2994 ≤ k → (j : ℕ) → j ≤ 8 → total a j ≡ total b j
   unfolding total
   total-same h j l = number-same same (2675 + 39 * j) 6 (omega arith)
 
@@ -122,7 +122,7 @@ unique-given g h =
     let f : number (g .fault) ≡ number (h .fault) = omega (arith, u .lower e, v .lower (sym e)) in
     (omega (arith, g .numbered, h .numbered), omega (arith, g .placed, h .placed, u .nearer e f, v .nearer (sym e) (sym f)))
 
-same-refusal : (x y : Refusal) → x .number ≡ y .number → x .place ≡ y .place → x ≡ y
+pub same-refusal : (x y : Refusal) → x .number ≡ y .number → x .place ≡ y .place → x ≡ y
 same-refusal x y n p = ap (λ (k : ℕ). refusing k (x .place)) n ∙ ap (refusing (y .number)) p
 
 pub unique-header-fault : (a : List ℕ) (r s : HeaderFault) → FirstIs a r → FirstIs a s → r ≡ s

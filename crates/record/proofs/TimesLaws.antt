@@ -54,6 +54,10 @@ module _ (a : List ℕ) (at : ℕ) (i : inside a at 20 ≡ true) where
       ∙ ap (λ (b : Bool). b && not (isAfter (compared (timeAt a (at + 8)) (timeAt a (at + 14))))) (q .0)
       )
 
+-- where the header's bytes are there, the test is of its times alone
+pub stands : (a : List ℕ) (at : ℕ) (b : Bool) → at + 20 ≤ length a → b ≡ timesStand a at → b ≡ timedAt a at
+stands a at b h e = e ∙ ap (λ (w : Bool). w && timedAt a at) (le-leb (at + 20) (length a) h)
+
 -- ---- locality
 time-same : (a b : List ℕ) (i : ℕ) → ((j : ℕ) → j < 6 → getD a (i + j) 0 ≡ getD b (i + j) 0) → timeAt a i ≡ timeAt b i
 time-same a b i same = ap timeOf (beAt-same a b i i 6 same)

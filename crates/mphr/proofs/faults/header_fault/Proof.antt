@@ -1,5 +1,5 @@
 -- `mphr::faults::header_fault` meets its contract. The invariant: each fault is of a later stage than the line. Assumes nothing.
-use Rattle.mphr.proofs.FirstLaws.{stood}
+use Rattle.record.proofs.TimesLaws.{stands}
 use Rattle.mphr.proofs.TurnLaws.{wait-first, refuse-1, refuse-10, begin, start-0, gone-at, whole}
 use Rattle.mphr.specs.declared.faults.Turned.the-variants.{Stop, Go}
 use Rattle.mphr.specs.declared.faults.Turned.{Turned}
@@ -40,10 +40,10 @@ times-stand-requires : tie.Need-times-stand-requires Inv-loop μ-loop
 times-stand-requires c κs = search needs
 
 returns-3 : tie.Need-returns-3 Inv-loop μ-loop
-returns-3 c = refuse-10 (sym (c .before .before .before .is-headed .ensures) ∙ not-false (c .before .before .before .is-headed .result) (c .before .before .if2 .left)) (sym (stood _ (c .before .times-stand .result) (omega arith) (c .before .times-stand .ensures)) ∙ not-true (c .before .times-stand .result) (c .if3 .taken)) (omega arith)
+returns-3 c = refuse-10 (sym (c .before .before .before .is-headed .ensures) ∙ not-false (c .before .before .before .is-headed .result) (c .before .before .if2 .left)) (sym (stands _ 0 (c .before .times-stand .result) (omega arith) (c .before .times-stand .ensures)) ∙ not-true (c .before .times-stand .result) (c .if3 .taken)) (omega arith)
 
 loop-holds : tie.Need-loop-holds Inv-loop μ-loop
-loop-holds c = (omega arith, sym start-0, omega arith, begin (sym (c .before .before .before .is-headed .ensures) ∙ not-false (c .before .before .before .is-headed .result) (c .before .before .if2 .left)) (sym (stood _ (c .before .times-stand .result) (omega arith) (c .before .times-stand .ensures)) ∙ not-false (c .before .times-stand .result) (c .if3 .left)))
+loop-holds c = (omega arith, sym start-0, omega arith, begin (sym (c .before .before .before .is-headed .ensures) ∙ not-false (c .before .before .before .is-headed .result) (c .before .before .if2 .left)) (sym (stands _ 0 (c .before .times-stand .result) (omega arith) (c .before .times-stand .ensures)) ∙ not-false (c .before .times-stand .result) (c .if3 .left)))
 
 turn-requires : tie.Need-turn-requires Inv-loop μ-loop
 turn-requires c κs = let i = c .before .loop .inv in record { line = c .loop-test .taken; at-is = i .1; come = i .2; past = i .3 }

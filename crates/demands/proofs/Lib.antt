@@ -1,0 +1,6 @@
+pub mod Prefix
+pub mod Accept
+pub mod Accepted
+pub mod Put
+pub mod Example
+pub mod MarkedCases

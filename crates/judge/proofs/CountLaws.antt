@@ -1,0 +1,51 @@
+-- The size and the totals of a main header that has come and shows no fault: their fields are numbers, and small. By mphr's export.
+-- Assumes nothing.
+use Prim.Native.Nat.{ℕ, _+_, _-_, _*_, _≤_, _<_}
+use native.Mathlib.Omega.{arith}
+use native.Mathlib.Decide.{ℕ-discrete}
+use mathlib.Core.Path.{_≡_}
+use mathlib.Core.Bool.{false}
+use mathlib.Core.List.{List}
+use lib.ListN.{length, getD, set, length-set}
+use lib.Seq.{getD-set-same, getD-set-other}
+use Rattle.text.proofs.Exact.{is-small}
+use Rattle.mphr.specs.Table.{declared, total, Fine}
+use Rattle.mphr.proofs.LineLaws.{size-number, total-number}
+use Rattle.mphr.proofs.Export.{clean-fine, fine-valued, sized}
+use Rattle.judge.specs.Turning.{Begun, CountAt, Totals}
+
+pub begun-fine : {a : List ℕ} → Begun a → Fine a
+begun-fine b = clean-fine (b .come) (b .clean)
+
+pub size-count : {a : List ℕ} → Begun a → CountAt a 1485 11
+size-count {a} b = record { come = omega (arith, b .come); number = size-number a (fine-valued (begun-fine b) 28 (omega arith)); small = omega arith }
+
+pub total-count : {a : List ℕ} → Begun a → (j : ℕ) → j < 9 → CountAt a (2675 + 39 * j) 6
+total-count {a} b j h =
+    record { come = omega (arith, b .come); number = total-number a j h (fine-valued (begun-fine b) (55 + j) (omega arith)); small = omega arith }
+
+pub size-within : {a : List ℕ} → Begun a → (3307 ≤ declared a) × (declared a ≤ 2147483647)
+size-within b = sized (begun-fine b)
+
+pub total-small : {a : List ℕ} → Begun a → (j : ℕ) → j < 9 → total a j < 1000000
+unfolding total
+total-small {a} b j h = is-small false a (2675 + 39 * j) 6 (total-count b j h .number)
+
+-- the first j totals are in
+pub record Placed (a t : List ℕ) (j : ℕ) : Type 0 where
+  pub within : j ≤ 9
+  pub nine : length t ≡ 9
+  pub same : (c : ℕ) → c < j → getD t c 0 ≡ total a c
+
+pub put-first : {a t : List ℕ} → length t ≡ 9 → Placed a t 0
+put-first h = record { within = omega arith; nine = h; same = λ c l. absurd (omega arith) }
+
+pub put-next : {a t : List ℕ} {j v : ℕ} → Placed a t j → j < 9 → v ≡ total a j → Placed a (set t j v) (j + 1)
+put-next {a} {t} {j} {v} p h e = record { within = omega arith; nine = simp length-set (p .nine); same = λ c l. go c l (ℕ-discrete c j) }
+  where
+    go : (c : ℕ) → c < j + 1 → Dec (c ≡ j) → getD (set t j v) c 0 ≡ total a c
+    go c l (yes q) = rw q (rw (getD-set-same t j v 0 (omega (arith, p .nine))) e)
+    go c l (no n) = rw (getD-set-other t j c v 0 n) (p .same c (omega (arith, n)))
+
+pub put-last : {a t : List ℕ} {j : ℕ} → Begun a → Placed a t j → 9 ≤ j → Totals a t
+put-last b p h = record { nine = p .nine; same = λ c l. p .same c (omega arith); small = λ c l. total-small b c (omega arith) }

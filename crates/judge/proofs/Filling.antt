@@ -1,0 +1,90 @@
+-- The index's filling: what is known before each store. By the way that is left from the record at hand to the product's end. Assumes nothing.
+use Prim.Native.Nat.{ℕ, _+_, _-_, _≤_, _<_}
+use native.Mathlib.Omega.{arith}
+use mathlib.Core.Path.{_≡_, refl, sym, _∙_}
+use mathlib.Core.List.{List}
+use lib.ListN.{length, set, length-set}
+use Rattle.judge.specs.Table.{Site, site, first, classAt, sizeAt, oneMore, Leads, here, on, next}
+use Rattle.judge.specs.Finish.{starts, put, Filled, Fillable}
+use Rattle.judge.proofs.WayLaws.{leads-le, counts, goes}
+
+-- ix₀ is the index with the main header in it; k starts are in, and the record at byte i is the next; with the rest written in it is as it shall be
+pub record Filling (a ix₀ ix : List ℕ) (k i : ℕ) : Type 0 where
+  pub asked : Fillable a ix₀
+  pub prev : ℕ
+  pub tally : List ℕ
+  pub rest : Leads a (site k i prev tally) (asked .covered .last)
+  pub counted : k ≤ i
+  pub size : length ix ≡ length ix₀
+  pub same : put k (starts rest) ix ≡ put 1 (starts (asked .covered .way)) ix₀
+
+pub filling-first : {a ix : List ℕ} → Fillable a ix → Filling a (set ix 0 0) (set ix 0 0) 1 3307
+filling-first f = record {
+  asked = record { count = f .count; covered = f .covered; come = f .come; small = f .small; room = simp length-set (f .room) };
+  prev = first .prev;
+  tally = first .tally;
+  rest = f .covered .way;
+  counted = omega arith;
+  size = refl;
+  same = refl;
+}
+
+-- the index has a place
+pub some-room : {a ix : List ℕ} → Fillable a ix → 0 < length ix
+some-room f = omega (arith, f .room, f .covered .counted, counts (f .covered .way))
+
+-- what is known in a turn
+pub record Within (a ix : List ℕ) (k i : ℕ) : Type 0 where
+  pub small : i < 2147483647
+  pub low : k ≤ i
+  pub place : k < length ix
+  pub least : 20 ≤ sizeAt a i
+  pub most : i + sizeAt a i ≤ length a
+
+pub within : {a ix₀ ix : List ℕ} {k i : ℕ} → Filling a ix₀ ix k i → i < length a → Within a ix k i
+within f h =
+    let q = f .asked in
+    let e = goes (f .rest) (omega (arith, q .come, q .covered .ends)) in
+    record {
+      small = omega (arith, q .small);
+      low = f .counted;
+      place = omega (arith, counts (e .1), q .covered .counted, q .room, f .size);
+      least = e .0 .least;
+      most = omega (arith, e .0 .most, q .come);
+    }
+
+step : {a : List ℕ} (ix : List ℕ) {x y : Site} (l : Leads a x y) → x .at < y .at → (m : Leads a (next a x) y) × (put (x .count) (starts l) ix ≡ put (x .count + 1) (starts m) (set ix (x .count) (x .at)))
+step ix here h = absurd (omega arith)
+step ix (on s l) h = (l, refl)
+
+pub filling-next : {a ix₀ ix : List ℕ} {k i z : ℕ} → Filling a ix₀ ix k i → i < length a → z ≡ sizeAt a i → Filling a ix₀ (set ix k i) (k + 1) (i + z)
+filling-next {a} {ix₀} {ix} {k} {i} f h e =
+    let q = f .asked in
+    let m = step ix (f .rest) (omega (arith, q .come, q .covered .ends)) in
+    rw e (record {
+      asked = q;
+      prev = classAt a i;
+      tally = oneMore (f .tally) (classAt a i);
+      rest = m .0;
+      counted = omega (arith, f .counted, within f h .least);
+      size = simp length-set (f .size);
+      same = sym (m .1) ∙ f .same;
+    })
+
+over : {a : List ℕ} (ix : List ℕ) {x y : Site} (l : Leads a x y) → y .at ≤ x .at → (x .count ≡ y .count) × (put (x .count) (starts l) ix ≡ ix)
+over ix here h = (refl, refl)
+over ix (on s l) h = absurd (omega (arith, s .least, leads-le l))
+
+pub filling-last : {a ix₀ ix : List ℕ} {k i : ℕ} → Filling a (set ix₀ 0 0) ix k i → length a ≤ i → Filled a ix₀ k ix
+filling-last {ix = ix} f h =
+    let q = f .asked in
+    let m = over ix (f .rest) (omega (arith, q .come, q .covered .ends)) in
+    record {
+      covered = record { last = q .covered .last; way = q .covered .way; ends = q .covered .ends; counted = sym (m .0) };
+      fits = omega (arith, m .0, q .covered .counted, simp length-set at (q .room));
+      index = sym (m .1) ∙ f .same;
+    }
+
+-- the measure falls
+pub less : {n i z : ℕ} → i < n → 1 ≤ z → n - (i + z) < n - i
+less h l = omega arith

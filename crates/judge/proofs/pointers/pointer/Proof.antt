@@ -1,0 +1,101 @@
+-- `judge::pointers::pointer` meets its contract. The invariant: the pointers that are looked for are from q on. Assumes nothing.
+use borrow.Author.Needs.{needs}
+use Prim.Native.Nat.{ℕ, _+_, _-_, _≤_, _<_}
+use native.Mathlib.Nat.{le-refl}
+use native.Mathlib.Omega.{arith}
+use denote.Ref.{now}
+use mathlib.Core.Path.{_≡_, subst}
+use mathlib.Core.List.{List}
+use lib.ListN.{length}
+use Rattle.judge.specs.Table.{sizeAt}
+use Rattle.judge.specs.Step.{Scan, LookIs}
+use Rattle.judge.specs.declared.pointers.Look.{Look}
+use Rattle.judge.specs.declared.pointers.Look.the-variants as K
+use Rattle.judge.proofs.ScanLaws.{scan-room, looking, scan-pass, scan-found, scan-stop, scan-none, scan-narrow, less}
+use Rattle.judge.proofs.pointers.pointer.Statement.{statement}
+use Rattle.judge.proofs.pointers.pointer.Tie as tie
+
+abbrev Inv-loop : tie.InvT-loop
+Inv-loop s w lo hi kind q₀ q = Scan s (w .end) lo hi kind q
+
+abbrev μ-loop : tie.MeasureT-loop
+μ-loop s w lo hi kind q₀ q = w .end - q
+
+abbrev St : tie.Then1 Inv-loop μ-loop → tie.Start Inv-loop μ-loop
+St c = c .before .before .before .before
+
+abbrev q : tie.Then1 Inv-loop μ-loop → ℕ
+q c = c .before .before .loop .q
+
+abbrev scan : (c : tie.Then1 Inv-loop μ-loop) → Scan (now (St c .args .s)) (St c .args .w .end) (St c .args .lo) (St c .args .hi) (St c .args .kind) (q c)
+scan c = c .before .before .loop .inv
+
+told : (c : tie.After-look-at Inv-loop μ-loop) (r : Look) → c .look-at .result ≡ r → LookIs (now (St (c .before) .args .s)) (q (c .before)) (St (c .before) .args .lo) (St (c .before) .args .hi) (St (c .before) .args .kind) (St (c .before) .args .w .rising) r
+told c r e = subst (LookIs (now (St (c .before) .args .s)) (q (c .before)) (St (c .before) .args .lo) (St (c .before) .args .hi) (St (c .before) .args .kind) (St (c .before) .args .w .rising)) e (c .look-at .ensures)
+
+loop-holds : tie.Need-loop-holds Inv-loop μ-loop
+loop-holds c = scan-narrow (le-refl _) (le-refl _) (c .before .pre .cursor)
+
+look-at-requires : tie.Need-look-at-requires Inv-loop μ-loop
+look-at-requires c κs = looking (scan c) (c .if1 .taken)
+
+enum-told : tie.Need-enum-told Inv-loop μ-loop
+enum-told c = search needs
+
+returns : tie.Need-returns Inv-loop μ-loop
+returns c = let d = c .before .before in scan-found (scan (d .before)) (d .before .if1 .taken) (told d K.Found (c .enum-told .given .1))
+
+enum-told-2 : tie.Need-enum-told-2 Inv-loop μ-loop
+enum-told-2 c = search needs
+
+returns-2 : tie.Need-returns-2 Inv-loop μ-loop
+returns-2 c =
+    let d = c .before .before in
+    let b = told d K.Stop (c .enum-told2 .given .1) in
+    scan-stop (scan (d .before)) (St (d .before) .pre .order (b .rises)) (d .before .if1 .taken) (b .ipr) (b .over)
+
+enum-told-3 : tie.Need-enum-told-3 Inv-loop μ-loop
+enum-told-3 c = search needs
+
+room : (c : tie.After-enum-told3 Inv-loop μ-loop) → (q (c .before .before .before) + sizeAt (now (St (c .before .before .before) .args .s)) (q (c .before .before .before)) ≤ St (c .before .before .before) .args .w .end) × (20 ≤ sizeAt (now (St (c .before .before .before) .args .s)) (q (c .before .before .before))) × (St (c .before .before .before) .args .w .end ≤ length (now (St (c .before .before .before) .args .s)))
+room c = let d = c .before .before .before in scan-room (scan d) (d .if1 .taken)
+
+add-word : tie.Need-add-word Inv-loop μ-loop
+add-word c = record { fits = omega (arith, room c) }
+
+word-requires : tie.Need-word-requires Inv-loop μ-loop
+word-requires c κs = omega (arith, room c)
+
+add-q : tie.Need-add-q Inv-loop μ-loop
+add-q c = record { fits = omega (arith, room (c .before), c .word .ensures) }
+
+loop-less : tie.Need-loop-less Inv-loop μ-loop
+loop-less c = let d = c .before .before .before .before in less (d .if1 .taken) (omega (arith, room (c .before), c .word .ensures))
+
+loop-again : tie.Need-loop-again Inv-loop μ-loop
+loop-again c =
+    let d = c .before .before .before in
+    scan-pass (scan (d .before)) (d .before .if1 .taken) (told d K.Pass (c .before .enum-told3 .given .1)) (c .word .result) (c .word .ensures .0)
+
+returns-3 : tie.Need-returns-3 Inv-loop μ-loop
+returns-3 c = scan-none (c .before .before .loop .inv) (c .if1 .left)
+
+pub pointer-spec : {M : Type 1} → statement M
+pointer-spec =
+    tie.close
+    (tie.spec
+    Inv-loop
+    μ-loop
+    loop-holds
+    look-at-requires
+    enum-told
+    returns
+    enum-told-2
+    returns-2
+    enum-told-3
+    add-word
+    word-requires
+    add-q
+    loop-less
+    loop-again
+    returns-3)

@@ -1,0 +1,64 @@
+-- `judge::pointers::settle` meets its contract: the two searches, then the pointers that are left. Assumes nothing.
+use native.Mathlib.Nat.{le-refl}
+use native.Mathlib.Omega.{arith}
+use mathlib.Core.Path.{_≡_, refl}
+use Rattle.judge.proofs.ScanLaws.{quiet-narrow, searching, follow-still, of-kind}
+use borrow.Author.Needs.{needs}
+use Rattle.judge.proofs.pointers.settle.Statement.{statement}
+use Rattle.judge.proofs.pointers.settle.Tie as tie
+
+returns : tie.Need-returns
+returns c =
+    let k = c .before .before .before .pre in
+    record { inside = quiet-narrow (omega arith) (omega arith) (k .kept .quiet); other = quiet-narrow (le-refl _) (omega (arith, k .least)) (k .kept .quiet); follows = follow-still k }
+
+add-pointer : tie.Need-add-pointer
+add-pointer c = search needs
+
+pointer-requires : tie.Need-pointer-requires
+pointer-requires c κs = let k = c .before .before .before .pre in searching k (omega arith) (k .most)
+
+returns-2 : tie.Need-returns-2
+returns-2 c = search needs
+
+add-pointer-2 : tie.Need-add-pointer-2
+add-pointer-2 c = search needs
+
+triple-requires : tie.Need-triple-requires
+triple-requires c κs = search needs
+
+pointer-requires-2 : tie.Need-pointer-requires-2
+pointer-requires-2 c κs = let k = c .before .before .before .before .before .before .pre in searching k (le-refl _) (omega (arith, k .least, k .most))
+
+returns-3 : tie.Need-returns-3
+returns-3 c =
+    let e = c .before .before .before in
+    record { some = c .if3 .taken; small = omega (arith, c .before .before .triple .ensures); none = e .before .pointer .ensures .none (e .if2 .left); found = of-kind (c .before .before .triple .ensures .0) (c .before .pointer2 .ensures) }
+
+follow-requires : tie.Need-follow-requires
+follow-requires c κs = let k = c .before .before .before .before .before .before .before .before .pre in (searching k (omega (arith, k .least)) (le-refl _), k .d-is)
+
+returns-4 : tie.Need-returns-4
+returns-4 c =
+    let f = c .before in
+    let e = f .before .before .before in
+    record {
+      inside = e .before .pointer .ensures .none (e .if2 .left);
+      other = of-kind (f .before .before .triple .ensures .0) (f .before .pointer2 .ensures) .none (f .if3 .left);
+      follows = c .follow .ensures;
+    }
+
+pub settle-spec : {M : Type 1} → statement M
+settle-spec =
+    tie.close
+    (tie.spec
+    returns
+    add-pointer
+    pointer-requires
+    returns-2
+    add-pointer-2
+    triple-requires
+    pointer-requires-2
+    returns-3
+    follow-requires
+    returns-4)

@@ -1,0 +1,199 @@
+// The arrival judge: one pass over the records' headers, in constant memory; payloads are not read.
+use crate::header::is_part;
+use crate::header::rank;
+use crate::header::word;
+use crate::pointers::Body;
+use crate::pointers::Pointers;
+use crate::pointers::Settled;
+use crate::pointers::close_record;
+use crate::pointers::no_pointers;
+use crate::pointers::settle;
+use calendar::Refusal;
+use mphr::faults::HeaderFault;
+use text::Number;
+use text::NumberRead;
+ghost use mathlib.Core.Path.{_≡_};
+ghost use Prim.Native.Nat.{_+_, _*_, _^_, _≤_, _<_};
+ghost use lib.ListN.{length};
+ghost use Rattle.meter.specs.General.{numberOf};
+ghost use Rattle.text.specs.Field.{isNumber};
+ghost use Rattle.mphr.specs.Table.{declared, total, Fine};
+ghost use Rattle.judge.specs.Table.{site, Judged};
+ghost use Rattle.judge.specs.Turning.{Totals, Ready, TurnedIs, refusedAt, Begun, CountAt, Over, FewerIs};
+
+pub enum Arrival {
+    Waiting { count: usize, end: usize },
+    Refused(Refusal),
+}
+
+// What a record comes to.
+pub enum Turned {
+    Stop(Arrival),
+    Go {
+        to: usize,
+        class: u8,
+        pointers: Pointers,
+    },
+}
+
+// The number of a field of a fine main header.
+fn count_at(s: &[u8], at: usize, width: usize) -> usize
+    requires { ⌜ CountAt (now s) at width ⌝ }
+    ensures { λ r. ⌜ r ≡ numberOf (now (s .entry)) at width ⌝ }
+{
+    let NumberRead::Number(n) = text::read_number(s, at, width, false) else {
+        return 0;
+    };
+    let Number::Whole(z) = n else {
+        return 0;
+    };
+    z as usize
+}
+
+// D, the size that the product declares.
+pub(crate) fn size_of(s: &[u8]) -> usize
+    requires { ⌜ Begun (now s) ⌝ }
+    ensures { λ r. ⌜ (r ≡ declared (now (s .entry))) × (3307 ≤ r) × (r ≤ 2147483647) ⌝ }
+{
+    count_at(s, 1485, 11)
+}
+
+// The totals of the records and of each class.
+fn put_totals(s: &[u8], totals: &mut [usize])
+    requires { ⌜ Begun (now s) × (length (now totals) ≡ 9) ⌝ }
+    ensures { λ r. ⌜ Totals (now (s .entry)) (now (totals .exit)) ⌝ }
+{
+    let mut j: usize = 0;
+    while j < 9 {
+        totals[j] = count_at(s, 2675 + 39 * j, 6);
+        j += 1;
+    }
+}
+
+fn refusal(number: u8, place: usize) -> Arrival
+    ensures { λ r. ⌜ r ≡ refusedAt number place ⌝ }
+{
+    Arrival::Refused(Refusal { number, place })
+}
+
+// One record of the walk.
+fn turn(
+    s: &[u8],
+    totals: &[usize],
+    tally: &[usize],
+    d: usize,
+    count: usize,
+    at: usize,
+    prev: u8,
+    w: Pointers,
+) -> Turned
+    requires { ⌜ Ready (now s) d (site count at prev (now tally)) (now totals) w ⌝ }
+    ensures { λ r. ⌜ TurnedIs (now (s .entry)) (site count at prev (now (tally .entry))) r ⌝ }
+{
+    if s.len() < at + 20 {
+        return Turned::Stop(Arrival::Waiting { count, end: at });
+    }
+    let h = rank(s, totals, tally, d, at, prev);
+    if h == 6 {
+        return Turned::Stop(refusal(6, at + 20));
+    }
+    if h < 12 {
+        return Turned::Stop(refusal(h, at));
+    }
+    let to = at + word(s, at + 4);
+    match settle(s, w, at, to, d) {
+        Settled::Inside(q) => Turned::Stop(refusal(13, q)),
+        Settled::Other(q) => Turned::Stop(refusal(14, q)),
+        Settled::Clear(v) => match close_record(s, v, at, to, d) {
+            Body::Part => Turned::Stop(Arrival::Waiting { count, end: at }),
+            Body::Six => Turned::Stop(refusal(6, to)),
+            Body::BadTarget => Turned::Stop(refusal(12, at)),
+            Body::Entire(pointers) => Turned::Go {
+                to,
+                class: s[at],
+                pointers,
+            },
+        },
+    }
+}
+
+// A class has fewer records than its total.
+fn is_short(totals: &[usize], tally: &[usize]) -> bool
+    requires { ⌜ (length (now totals) ≡ 9) × (length (now tally) ≡ 9) ⌝ }
+    ensures { λ r. ⌜ FewerIs (now (totals .entry)) (now (tally .entry)) r ⌝ }
+{
+    let mut c: usize = 1;
+    while c < 9 {
+        if tally[c] < totals[c] {
+            return true;
+        }
+        c += 1;
+    }
+    false
+}
+
+// The end of the walk, where each byte of d has come.
+fn ended(s: &[u8], totals: &[usize], tally: &[usize], d: usize, count: usize, prev: u8) -> Arrival
+    requires { ⌜ Over (now s) d (site count d prev (now tally)) (now totals) ⌝ }
+    ensures { λ r. ⌜ Judged (now (s .entry)) r ⌝ }
+{
+    if is_short(totals, tally) {
+        return refusal(15, d);
+    }
+    if d < s.len() {
+        return refusal(16, d);
+    }
+    Arrival::Waiting { count, end: d }
+}
+
+// The walk over the records after the main header.
+fn walk(s: &[u8]) -> Arrival
+    requires { ⌜ Begun (now s) ⌝ }
+    ensures { λ r. ⌜ Judged (now (s .entry)) r ⌝ }
+{
+    let d = size_of(s);
+    if is_part(3307, d) {
+        return refusal(6, 3307);
+    }
+    let mut totals = [0usize; 9];
+    put_totals(s, &mut totals);
+    let mut tally = [0usize, 1, 0, 0, 0, 0, 0, 0, 0];
+    let mut count: usize = 1;
+    let mut at: usize = 3307;
+    let mut prev: u8 = 1;
+    let mut w = no_pointers(d);
+    while at < d {
+        match turn(s, &totals, &tally, d, count, at, prev, w) {
+            Turned::Stop(answer) => {
+                return answer;
+            }
+            Turned::Go {
+                to,
+                class,
+                pointers,
+            } => {
+                tally[class as usize] += 1;
+                count += 1;
+                at = to;
+                prev = class;
+                w = pointers;
+            }
+        }
+    }
+    ended(s, &totals, &tally, d, count, prev)
+}
+
+// What is to be said of an arrival: a refusal of 1 to 16, or waiting, with the whole records and the end of the last.
+pub fn judge_arrival(s: &[u8]) -> Arrival
+    ensures { λ r. ⌜ Judged (now (s .entry)) r ⌝ }
+{
+    match mphr::faults::header_fault(s) {
+        HeaderFault::Refused(r) => Arrival::Refused(r),
+        HeaderFault::Clean => {
+            if s.len() < 3307 {
+                return Arrival::Waiting { count: 0, end: 0 };
+            }
+            walk(s)
+        }
+    }
+}

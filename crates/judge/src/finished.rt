@@ -1,0 +1,58 @@
+// The finished judge: the arrival judge's refusals, then 17 and 18; where it accepts, the records' starts go into the lent index.
+use crate::arrival::Arrival;
+use crate::arrival::judge_arrival;
+use crate::arrival::size_of;
+use crate::header::word;
+use calendar::Refusal;
+ghost use mathlib.Core.Path.{_≡_};
+ghost use Rattle.judge.specs.Finish.{Fillable, Filled, FinishedIs, refusedWith};
+
+pub enum Finished {
+    Accepted { count: usize },
+    Refused(Refusal),
+}
+
+// The records' starts go into the index, the main header's first; their number comes back.
+fn fill(s: &[u8], index: &mut [u32]) -> usize
+    requires { ⌜ Fillable (now s) (now index) ⌝ }
+    ensures { λ r. ⌜ Filled (now (s .entry)) (now (index .entry)) r (now (index .exit)) ⌝ }
+{
+    index[0] = 0;
+    let mut k: usize = 1;
+    let mut at: usize = 3307;
+    while at < s.len() {
+        index[k] = at as u32;
+        k += 1;
+        at += word(s, at + 4);
+    }
+    k
+}
+
+fn refused(number: u8, place: usize) -> Finished
+    ensures { λ r. ⌜ r ≡ refusedWith number place ⌝ }
+{
+    Finished::Refused(Refusal { number, place })
+}
+
+// What is to be said of a finished product, whose records' starts go into the index where it is accepted.
+pub fn judge_finished(s: &[u8], index: &mut [u32]) -> Finished
+    ensures { λ r. ⌜ FinishedIs (now (s .entry)) (now (index .entry)) r (now (index .exit)) ⌝ }
+{
+    match judge_arrival(s) {
+        Arrival::Refused(r) => Finished::Refused(r),
+        Arrival::Waiting { count, end: _ } => {
+            if s.len() < 3307 {
+                return refused(17, s.len());
+            }
+            if s.len() < size_of(s) {
+                return refused(17, s.len());
+            }
+            if index.len() < count {
+                return refused(18, count);
+            }
+            Finished::Accepted {
+                count: fill(s, index),
+            }
+        }
+    }
+}

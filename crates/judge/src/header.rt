@@ -1,0 +1,105 @@
+// What a record's header shows by itself: the faults 7 to 11, and 6 where too few bytes are left after it.
+ghost use mathlib.Core.Path.{_≡_};
+ghost use mathlib.Core.Bool.{_&&_};
+ghost use Prim.Native.Nat.{_+_, _≤_, _<_};
+ghost use lib.Dec.{ltb};
+ghost use lib.ListN.{length};
+ghost use Rattle.meter.specs.Integer.{beAt};
+ghost use Rattle.judge.specs.Step.{Ranked, Ranking, SizedIs, SixIn};
+
+fn wide(b: u8) -> usize
+    ensures { λ r. ⌜ (r ≡ b) × (r < 256) ⌝ }
+{
+    b as usize
+}
+
+// The number in the 3 bytes from `at` on.
+pub(crate) fn triple(s: &[u8], at: usize) -> usize
+    requires { ⌜ at + 3 ≤ length (now s) ⌝ }
+    ensures { λ r. ⌜ (r ≡ beAt (now (s .entry)) at 3) × (r < 16777216) ⌝ }
+{
+    (wide(s[at]) * 256 + wide(s[at + 1])) * 256 + wide(s[at + 2])
+}
+
+// The number in the 4 bytes from `at` on.
+pub(crate) fn word(s: &[u8], at: usize) -> usize
+    requires { ⌜ at + 4 ≤ length (now s) ⌝ }
+    ensures { λ r. ⌜ (r ≡ beAt (now (s .entry)) at 4) × (r < 4294967296) ⌝ }
+{
+    triple(s, at) * 256 + wide(s[at + 3])
+}
+
+// 1 to 19 bytes of d are left from `at` on.
+pub(crate) fn is_part(at: usize, d: usize) -> bool
+    requires { ⌜ at ≤ d ⌝ }
+    ensures { λ r. ⌜ r ≡ (ltb at d && ltb d (at + 20)) ⌝ }
+{
+    if at == d {
+        return false;
+    }
+    d - at < 20
+}
+
+// A size of 20 or more, not past d, and 27 for a pointer record.
+fn is_sized(class: u8, size: usize, left: usize) -> bool
+    ensures { λ r. ⌜ SizedIs class size left r ⌝ }
+{
+    if size < 20 {
+        return false;
+    }
+    if left < size {
+        return false;
+    }
+    if class != 3 {
+        return true;
+    }
+    size == 27
+}
+
+// The record is of 20 bytes, and 1 to 19 bytes are left after it.
+fn is_six(class: u8, size: usize, left: usize) -> bool
+    ensures { λ r. ⌜ SixIn class size left r ⌝ }
+{
+    if size != 20 {
+        return false;
+    }
+    if class == 3 {
+        return false;
+    }
+    if left <= 20 {
+        return false;
+    }
+    left < 40
+}
+
+// The lowest number of the faults that the header at `at` shows by itself, 6 where 1 to 19 bytes are left after its 20, or 12 for none.
+pub(crate) fn rank(s: &[u8], totals: &[usize], tally: &[usize], d: usize, at: usize, prev: u8) -> u8
+    requires { ⌜ Ranking (now s) (now totals) (now tally) d at prev ⌝ }
+    ensures { λ r. ⌜ Ranked (now (s .entry)) prev at (now (tally .entry)) r ⌝ }
+{
+    let class = s[at];
+    let size = word(s, at + 4);
+    let left = d - at;
+    if is_six(class, size, left) {
+        return 6;
+    }
+    if !record::header::is_class(class) {
+        return 7;
+    }
+    if !record::header::is_group(s[at + 1]) {
+        return 7;
+    }
+    if !record::follow::may_follow(prev, class) {
+        return 8;
+    }
+    if !is_sized(class, size, left) {
+        return 9;
+    }
+    if !record::times::times_stand(s, at) {
+        return 10;
+    }
+    if totals[class as usize] <= tally[class as usize] {
+        return 11;
+    }
+    12
+}

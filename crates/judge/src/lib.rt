@@ -1,0 +1,7 @@
+// Judges arrivals and finished products by 01's table of faults.
+pub use calendar::Refusal;
+
+pub mod arrival;
+pub mod finished;
+mod header;
+mod pointers;

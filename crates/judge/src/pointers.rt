@@ -1,0 +1,229 @@
+// The pointer records met so far, looked through only where one may point at the record at hand; in linear time where their targets never
+// descend, as 002 orders them.
+use crate::header::is_part;
+use crate::header::triple;
+use crate::header::word;
+ghost use mathlib.Core.Path.{_≡_};
+ghost use mathlib.Core.Bool.{true};
+ghost use Prim.Native.Nat.{_+_, _≤_, _<_};
+ghost use lib.ListN.{length};
+ghost use Rattle.mphr.specs.Table.{declared};
+ghost use Rattle.judge.specs.Table.{Target};
+ghost use Rattle.judge.specs.Step.{FirstPointer, Quiet, Looking, LookIs, Met, Search, Settling, SettledIs, Follows};
+ghost use Rattle.judge.specs.Step.{noPointers, JoinedIs, BodyIs, Bodied, TargetIs};
+
+// What is known of the pointer records met so far: where the last of them ends; a byte before which none of them points further on;
+// the first that does; the last one's target, and whether the targets have never descended.
+pub struct Pointers {
+    pub end: usize,
+    pub due: usize,
+    pub from: usize,
+    pub last: usize,
+    pub rising: bool,
+}
+
+// What the pointers say of a record: one points inside it; one points at it and names another kind; or neither, and then what is
+// known of those that point past it.
+pub enum Settled {
+    Inside(usize),
+    Other(usize),
+    Clear(Pointers),
+}
+
+// What the body of a record comes to: it has not all come; 1 to 19 bytes are left after it; its target is bad; or it is whole.
+pub enum Body {
+    Part,
+    Six,
+    BadTarget,
+    Entire(Pointers),
+}
+
+// More than each number of three bytes.
+const ANY: usize = 16_777_216;
+
+// What is known before the first of them.
+pub(crate) fn no_pointers(d: usize) -> Pointers
+    ensures { λ r. ⌜ r ≡ noPointers d ⌝ }
+{
+    Pointers {
+        end: 3307,
+        due: d,
+        from: 3307,
+        last: 0,
+        rising: true,
+    }
+}
+
+// What a record is to a search.
+pub enum Look {
+    Pass,
+    Found,
+    Stop,
+}
+
+// Whether the record at q is a pointer whose target is from lo up to hi and of another kind than `kind`. Where the targets never
+// descend, one that is past hi ends the search.
+fn look_at(s: &[u8], q: usize, lo: usize, hi: usize, kind: usize, rising: bool) -> Look
+    requires { ⌜ Looking (now s) q ⌝ }
+    ensures { λ r. ⌜ LookIs (now (s .entry)) q lo hi kind rising r ⌝ }
+{
+    if s[q] != 3 {
+        return Look::Pass;
+    }
+    let target = word(s, q + 23);
+    if target < lo {
+        return Look::Pass;
+    }
+    if hi <= target {
+        if rising {
+            return Look::Stop;
+        }
+        return Look::Pass;
+    }
+    if triple(s, q + 20) == kind {
+        return Look::Pass;
+    }
+    Look::Found
+}
+
+// The first such pointer, or 0, where no pointer stands. It is looked for from the cursor on.
+fn pointer(s: &[u8], w: Pointers, lo: usize, hi: usize, kind: usize) -> usize
+    requires { ⌜ Search (now s) w lo hi ⌝ }
+    ensures { λ r. ⌜ FirstPointer (now (s .entry)) (w .end) lo hi kind r ⌝ }
+{
+    let mut q: usize = w.from;
+    while q < w.end {
+        match look_at(s, q, lo, hi, kind, w.rising) {
+            Look::Found => {
+                return q;
+            }
+            Look::Stop => {
+                return 0;
+            }
+            Look::Pass => {
+                q += word(s, q + 4);
+            }
+        }
+    }
+    0
+}
+
+// The target of the pointer at q where that is from lo up to `least`, else `least`.
+fn nearer(s: &[u8], q: usize, lo: usize, least: usize) -> usize
+    requires { ⌜ Looking (now s) q ⌝ }
+    ensures { λ r. ⌜ (r ≤ least) × (Met (now (s .entry)) q lo r 16777216 → ⊥) ⌝ }
+{
+    match look_at(s, q, lo, least, ANY, false) {
+        Look::Found => word(s, q + 23),
+        Look::Stop => least,
+        Look::Pass => least,
+    }
+}
+
+// The least target from lo on, or cap where none is below it.
+fn nearest(s: &[u8], w: Pointers, lo: usize, cap: usize) -> usize
+    requires { ⌜ Search (now s) w lo cap ⌝ }
+    ensures { λ r. ⌜ Quiet (now (s .entry)) (w .end) lo r 16777216 ⌝ }
+{
+    let mut least = cap;
+    let mut q: usize = w.from;
+    while q < w.end {
+        least = nearer(s, q, lo, least);
+        q += word(s, q + 4);
+    }
+    least
+}
+
+// The pointers, once those that point before `to` are done with.
+fn follow(s: &[u8], w: Pointers, to: usize, d: usize) -> Pointers
+    requires { ⌜ Search (now s) w to d × (d ≡ declared (now s)) ⌝ }
+    ensures { λ r. ⌜ Follows (now (s .entry)) w to r ⌝ }
+{
+    let mut v = w;
+    if !w.rising {
+        v.due = nearest(s, w, to, d);
+        return v;
+    }
+    let q = pointer(s, w, to, d, ANY);
+    if q == 0 {
+        v.due = d;
+        v.from = w.end;
+        return v;
+    }
+    v.due = word(s, q + 23);
+    v.from = q;
+    v
+}
+
+// The pointers are looked through only where one may point at the record.
+pub(crate) fn settle(s: &[u8], w: Pointers, at: usize, to: usize, d: usize) -> Settled
+    requires { ⌜ Settling (now s) w at to d ⌝ }
+    ensures { λ r. ⌜ SettledIs (now (s .entry)) w at to r ⌝ }
+{
+    if to <= w.due {
+        return Settled::Clear(w);
+    }
+    let inside = pointer(s, w, at + 1, to, ANY);
+    if inside != 0 {
+        return Settled::Inside(inside);
+    }
+    let other = pointer(s, w, at, at + 1, triple(s, at));
+    if other != 0 {
+        return Settled::Other(other);
+    }
+    Settled::Clear(follow(s, w, to, d))
+}
+
+// The target of the pointer record from `at` up to `to`.
+fn is_target(s: &[u8], at: usize, to: usize, d: usize) -> bool
+    requires { ⌜ Bodied (now s) at to d × (to ≡ at + 27) × (to ≤ length (now s)) ⌝ }
+    ensures { λ r. ⌜ TargetIs (now (s .entry)) at r ⌝ }
+{
+    if s[at + 20] < 4 {
+        return false;
+    }
+    if 8 < s[at + 20] {
+        return false;
+    }
+    let target = word(s, at + 23);
+    if target < to {
+        return false;
+    }
+    target + 20 <= d
+}
+
+// The pointers with one more, which ends at `to`.
+fn joined(v: Pointers, to: usize, target: usize) -> Pointers
+    ensures { λ r. ⌜ JoinedIs v to target r ⌝ }
+{
+    let mut u = v;
+    u.end = to;
+    u.last = target;
+    if target < v.due {
+        u.due = target;
+    }
+    if target < v.last {
+        u.rising = false;
+    }
+    u
+}
+
+// What comes after the header of the record from `at` up to `to`.
+pub(crate) fn close_record(s: &[u8], v: Pointers, at: usize, to: usize, d: usize) -> Body
+    requires { ⌜ Bodied (now s) at to d ⌝ }
+    ensures { λ r. ⌜ BodyIs (now (s .entry)) at to v r ⌝ }
+{
+    if s.len() < to {
+        return Body::Part;
+    }
+    if is_part(to, d) {
+        return Body::Six;
+    }
+    if s[at] != 3 {
+        return Body::Entire(v);
+    }
+    if !is_target(s, at, to, d) {
+        return Body::BadTarget;
+    }
+    Body::Entire(joined(v, to, word(s, at + 23)))
+}

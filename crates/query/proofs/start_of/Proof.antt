@@ -1,0 +1,56 @@
+-- `query::start_of` meets its contract: after each turn n records are passed, and the next is on the way to the last whole one. Assumes nothing.
+use Prim.Native.Nat.{_-_}
+use native.Mathlib.Omega.{arith}
+use mathlib.Core.Path.{refl}
+use mathlib.Core.Logic.{inl}
+use Rattle.query.proofs.QueryLaws.{Walking, walking-first, Steady, steady, walking-next, walking-last}
+use Rattle.query.proofs.start_of.Statement.{statement}
+use Rattle.query.proofs.start_of.Tie as tie
+
+abbrev Inv-loop : tie.InvT-loop
+Inv-loop s k n₀ at₀ n at = Walking s k n at
+
+abbrev μ-loop : tie.MeasureT-loop
+μ-loop s k n₀ at₀ n at = k - n
+
+in-turn : (c : tie.In-loop Inv-loop μ-loop) → Steady (c .before .before .before .before .args .s .now) (c .before .loop .at)
+in-turn c = steady (c .before .loop .inv) (c .loop-test .taken)
+
+returns : tie.Need-returns Inv-loop μ-loop
+returns c = inl (c .if1 .taken, refl)
+
+loop-holds : tie.Need-loop-holds Inv-loop μ-loop
+loop-holds c = walking-first (c .before .before .pre) (c .if1 .left)
+
+size-at-requires : tie.Need-size-at-requires Inv-loop μ-loop
+size-at-requires c κs = let w = in-turn c in omega (arith, w .least, w .come)
+
+add-at : tie.Need-add-at Inv-loop μ-loop
+add-at c = let w = in-turn (c .before) in omega (arith, w .come, c .size-at .ensures .0)
+
+add-n : tie.Need-add-n Inv-loop μ-loop
+add-n c = omega arith
+
+loop-less : tie.Need-loop-less Inv-loop μ-loop
+loop-less c = omega arith
+
+loop-again : tie.Need-loop-again Inv-loop μ-loop
+loop-again c = walking-next (c .before .before .loop .inv) (c .before .loop-test .taken) (c .size-at .ensures .0)
+
+returns-2 : tie.Need-returns-2 Inv-loop μ-loop
+returns-2 c = walking-last (c .before .loop .inv) (c .loop-test .left)
+
+pub start-of-spec : {M : Type 1} → statement M
+start-of-spec =
+    tie.close
+    (tie.spec
+    Inv-loop
+    μ-loop
+    returns
+    loop-holds
+    size-at-requires
+    add-at
+    add-n
+    loop-less
+    loop-again
+    returns-2)

@@ -1,0 +1,19 @@
+-- `judge_cases::products::first` is safe on every input; its contract asks no more.
+-- A prefix has as many bytes as are asked for. Assumes nothing.
+use lib.Seq.{length-take-le}
+use mathlib.Core.Path.{sym}
+use borrow.Author.Needs.{needs}
+use Rattle.judge_cases.proofs.products.first.Statement.{statement}
+use Rattle.judge_cases.proofs.products.first.Tie as tie
+
+slice-aggregate-result : tie.Need-slice-aggregate-result
+slice-aggregate-result c = sym (length-take-le (c .before .before .args .n) (c .before .before .args .bytes .now) (c .before .if1 .taken))
+
+returns : tie.Need-returns
+returns c = search needs
+
+returns-2 : tie.Need-returns-2
+returns-2 c = search needs
+
+pub first-spec : {M : Type 1} → statement M
+first-spec = tie.close (tie.spec slice-aggregate-result returns returns-2)

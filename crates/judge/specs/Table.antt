@@ -106,17 +106,28 @@ pub record Surplus (a t : List ℕ) (i : ℕ) : Type 0 where
 
 -- THE TABLE, the rows of a record after the first, and of the product's end
 pub data Wrong (a : List ℕ) (x : Site) : Type 0 where
+  -- 6, "1..19 bytes of D left"
   part-left : x .at < declared a → declared a < x .at + 20 → Wrong a x
+  -- 7, "class or group unknown"
   unknown : Head a x → Unknown a (x .at) → Wrong a x
+  -- 8, "class against the follow table"
   misplaced : Head a x → Misplaced a (x .prev) (x .at) → Wrong a x
+  -- 9, "size under 20, past D, or an IPR not 27 (not the first record)"
   bad-size : Head a x → (Sound a (x .at) → ⊥) → Wrong a x
+  -- 10, "bad time, or both defined and start after stop"
   bad-times : Head a x → timedAt a (x .at) ≡ false → Wrong a x
+  -- 11, "more of a class than its total (not the first record)"
   surplus : Head a x → Surplus a (x .tally) (x .at) → Wrong a x
+  -- 12, "IPR target class not 4..8, offset before the IPR's end, or offset+20 over D"
   bad-target : Sound a (x .at) → classAt a (x .at) ≡ 3 → (Target a (x .at) → ⊥) → Wrong a x
+  -- 13, "pointer inside a record starting at r": q is the pointer, x the record
   points-inside : (q : Site) → Pointer a q → Head a x → q .at < x .at → x .at < offsetAt a (q .at) → offsetAt a (q .at) < x .at + sizeAt a (x .at) → Wrong a x
+  -- 14, "pointer at a record of another class, group or subclass"
   points-at-other : (q : Site) → Pointer a q → Head a x → q .at < x .at → offsetAt a (q .at) ≡ x .at → (aimAt a (q .at) ≡ kindAt a (x .at) → ⊥) → Wrong a x
+  -- 15, "fewer of a class than its total"
   too-few : x .at ≡ declared a → (c : ℕ) → 1 ≤ c → c ≤ 8 → getD (x .tally) c 0 < total a c → Wrong a x
 
+-- their number, place and shown-at
 abbrev pub rowAt : {a : List ℕ} {x : Site} → Wrong a x → Row
 rowAt {x = x} (part-left _ _) = fault 6 (x .at) (x .at)
 rowAt {x = x} (unknown _ _) = fault 7 (x .at) (x .at + 20)

@@ -9,7 +9,7 @@ ghost use Prim.Native.Nat.{_+_, _≤_, _<_};
 ghost use lib.ListN.{length};
 ghost use Rattle.mphr.specs.Table.{declared};
 ghost use Rattle.judge.specs.Table.{Target};
-ghost use Rattle.judge.specs.Step.{FirstPointer, Quiet, Looking, LookIs, Met, Search, Settling, SettledIs, Follows};
+ghost use Rattle.judge.specs.Step.{FirstPointer, Looking, LookIs, Search, Settling, SettledIs, Follows};
 ghost use Rattle.judge.specs.Step.{noPointers, JoinedIs, BodyIs, Bodied, TargetIs};
 
 // What is known of the pointer records met so far: where the last of them ends; a byte before which none of them points further on;
@@ -108,40 +108,14 @@ fn pointer(s: &[u8], w: Pointers, lo: usize, hi: usize, kind: usize) -> usize
     0
 }
 
-// The target of the pointer at q where that is from lo up to `least`, else `least`.
-fn nearer(s: &[u8], q: usize, lo: usize, least: usize) -> usize
-    requires { ⌜ Looking (now s) q ⌝ }
-    ensures { λ r. ⌜ (r ≤ least) × (Met (now (s .entry)) q lo r 16777216 → ⊥) ⌝ }
-{
-    match look_at(s, q, lo, least, ANY, false) {
-        Look::Found => word(s, q + 23),
-        Look::Stop => least,
-        Look::Pass => least,
-    }
-}
-
-// The least target from lo on, or cap where none is below it.
-fn nearest(s: &[u8], w: Pointers, lo: usize, cap: usize) -> usize
-    requires { ⌜ Search (now s) w lo cap ⌝ }
-    ensures { λ r. ⌜ Quiet (now (s .entry)) (w .end) lo r 16777216 ⌝ }
-{
-    let mut least = cap;
-    let mut q: usize = w.from;
-    while q < w.end {
-        least = nearer(s, q, lo, least);
-        q += word(s, q + 4);
-    }
-    least
-}
-
-// The pointers, once those that point before `to` are done with.
+// The pointers, once those that point before `to` are done with. Where their targets are in no order the next record has to look too.
 fn follow(s: &[u8], w: Pointers, to: usize, d: usize) -> Pointers
     requires { ⌜ Search (now s) w to d × (d ≡ declared (now s)) ⌝ }
     ensures { λ r. ⌜ Follows (now (s .entry)) w to r ⌝ }
 {
     let mut v = w;
     if !w.rising {
-        v.due = nearest(s, w, to, d);
+        v.due = to;
         return v;
     }
     let q = pointer(s, w, to, d, ANY);

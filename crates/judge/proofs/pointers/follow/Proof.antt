@@ -1,4 +1,4 @@
--- `judge::pointers::follow` meets its contract: the first pointer that points further on, or a bound where the targets are in no order. Assumes nothing.
+-- `judge::pointers::follow` meets its contract: the first pointer that points further on; where the targets are in no order, no bound. Assumes nothing.
 use borrow.Author.Tests.{not-false}
 use native.Mathlib.Nat.{le-refl}
 use native.Mathlib.Omega.{arith}
@@ -8,11 +8,8 @@ use borrow.Author.Needs.{needs}
 use Rattle.judge.proofs.pointers.follow.Statement.{statement}
 use Rattle.judge.proofs.pointers.follow.Tie as tie
 
-nearest-requires : tie.Need-nearest-requires
-nearest-requires c κs = search needs
-
 returns : tie.Need-returns
-returns c = let k = c .before .before .before .before .pre in record { quiet = c .nearest .ensures; cursor = scan-narrow (le-refl _) (omega (arith, k .1)) (k .0 .cursor); end-is = refl; last-is = refl; rising-is = refl }
+returns c = let k = c .before .before .before .pre in record { quiet = λ q b. omega (arith, b .above, b .below); cursor = scan-narrow (le-refl _) (omega (arith, k .1)) (k .0 .cursor); end-is = refl; last-is = refl; rising-is = refl }
 
 pointer-requires : tie.Need-pointer-requires
 pointer-requires c κs = search needs
@@ -45,4 +42,4 @@ returns-3 c =
 pub follow-spec : {M : Type 1} → statement M
 follow-spec =
     tie.close
-    (tie.spec nearest-requires returns pointer-requires returns-2 add-word word-requires returns-3)
+    (tie.spec returns pointer-requires returns-2 add-word word-requires returns-3)

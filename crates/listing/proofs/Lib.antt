@@ -1,0 +1,9 @@
+pub mod DecimalLaws
+pub mod StoreLaws
+pub mod ColumnLaws
+pub mod WalkLaws
+pub mod ProductLaws
+pub mod LineLaws
+pub mod Enough
+pub mod Determined
+pub mod Example

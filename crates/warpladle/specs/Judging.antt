@@ -1,0 +1,38 @@
+-- The judges and the record query for hosts that are not Rattle: the promises of `judge` and `query`, told as numbers. Assumes nothing.
+use Prim.Native.Nat.{ℕ}
+use mathlib.Core.List.{List, [], _∷_}
+use Rattle.judge.specs.Table.{Judged}
+use Rattle.judge.specs.Finish.{FinishedIs}
+use Rattle.judge.specs.declared.arrival.Arrival.{Arrival}
+use Rattle.judge.specs.declared.arrival.Arrival.the-variants as A
+use Rattle.judge.specs.declared.finished.Finished.{Finished}
+use Rattle.judge.specs.declared.finished.Finished.the-variants as F
+use Rattle.query.specs.Query.{RecordIs}
+use Rattle.query.specs.declared.RecordAnswer.{RecordAnswer}
+use Rattle.query.specs.declared.RecordAnswer.the-variants as R
+use Rattle.warpladle.specs.Told.{Told, refused4, refused16, one4, header16}
+
+-- waiting: the end of the last whole record, and the count
+abbrev pub arrivalSaid : Arrival → List ℕ
+arrivalSaid (A.Waiting c e) = 0 ∷ e ∷ c ∷ 0 ∷ []
+arrivalSaid (A.Refused r) = refused4 r
+
+abbrev pub ArrivalTold : List ℕ → List ℕ → Type 0
+ArrivalTold a numbers = Told (Judged a) arrivalSaid numbers
+
+-- accepted: the count
+abbrev pub finishedSaid : Finished → List ℕ
+finishedSaid (F.Accepted c) = one4 c
+finishedSaid (F.Refused r) = refused4 r
+
+-- the index ix has become ix′
+abbrev pub FinishedTold : List ℕ → List ℕ → List ℕ → List ℕ → Type 0
+FinishedTold a ix ix′ numbers = Told (λ (r : Finished). FinishedIs a ix r ix′) finishedSaid numbers
+
+-- the record's start and header
+abbrev pub recordSaid : RecordAnswer → List ℕ
+recordSaid (R.Record i h) = header16 i h
+recordSaid (R.Refused r) = refused16 r
+
+abbrev pub RecordTold : List ℕ → ℕ → List ℕ → Type 0
+RecordTold a k numbers = Told (RecordIs a k) recordSaid numbers

@@ -1,0 +1,65 @@
+// The judges and the record query.
+use crate::put::put_header;
+use crate::put::put_one;
+use crate::put::put4;
+use crate::put::refuse4;
+use crate::put::refuse16;
+use judge::arrival::Arrival;
+use judge::arrival::judge_arrival;
+use judge::finished::Finished;
+use judge::finished::judge_finished;
+use query::RecordAnswer;
+use query::record_at;
+ghost use mathlib.Core.Path.{_≡_};
+ghost use Rattle.warpladle.specs.Judging.{arrivalSaid, ArrivalTold, finishedSaid, FinishedTold, recordSaid, RecordTold};
+
+fn put_arrival(answer: &mut [u64; 4], judged: Arrival)
+    ensures { λ _. ⌜ now (answer .exit) ≡ arrivalSaid judged ⌝ }
+{
+    match judged {
+        Arrival::Waiting { count, end } => put4(answer, 0, end as u64, count as u64, 0),
+        Arrival::Refused(r) => refuse4(answer, r),
+    }
+}
+
+// What is to be said of an arrival: 0, the end of the last whole record, the count, 0.
+#[no_mangle]
+pub extern "C" fn wl_arrival(bytes: &[u8], answer: &mut [u64; 4])
+    ensures { λ _. ⌜ ArrivalTold (now (bytes .entry)) (now (answer .exit)) ⌝ }
+{
+    put_arrival(answer, judge_arrival(bytes));
+}
+
+fn put_finished(answer: &mut [u64; 4], judged: Finished)
+    ensures { λ _. ⌜ now (answer .exit) ≡ finishedSaid judged ⌝ }
+{
+    match judged {
+        Finished::Accepted { count } => put_one(answer, count as u64),
+        Finished::Refused(r) => refuse4(answer, r),
+    }
+}
+
+// What is to be said of a finished product: 0, 0, the count, 0; the records' starts go into the index.
+#[no_mangle]
+pub extern "C" fn wl_finished(bytes: &[u8], index: &mut [u32], answer: &mut [u64; 4])
+    ensures { λ _. ⌜ FinishedTold (now (bytes .entry)) (now (index .entry)) (now (index .exit)) (now (answer .exit)) ⌝ }
+{
+    put_finished(answer, judge_finished(bytes, index));
+}
+
+fn put_record(answer: &mut [u64; 16], found: RecordAnswer)
+    ensures { λ _. ⌜ now (answer .exit) ≡ recordSaid found ⌝ }
+{
+    match found {
+        RecordAnswer::Record { start, header } => put_header(answer, start, header),
+        RecordAnswer::Refused(r) => refuse16(answer, r),
+    }
+}
+
+// Record k: 0, 0, its start, class, group, subclass, version, size, then each of its two times as a flag, day and millisecond, 0, 0.
+#[no_mangle]
+pub extern "C" fn wl_record(bytes: &[u8], k: usize, answer: &mut [u64; 16])
+    ensures { λ _. ⌜ RecordTold (now (bytes .entry)) k (now (answer .exit)) ⌝ }
+{
+    put_record(answer, record_at(bytes, k));
+}

@@ -1,0 +1,7 @@
+// Warpladle for hosts that are not Rattle: each function of the crates below as numbers (include/warpladle.h says them for C).
+pub mod fields;
+pub mod given;
+pub mod judging;
+pub mod leaves;
+pub mod lines;
+pub mod put;

@@ -1,0 +1,490 @@
+//! Products, whole and damaged, from a small generator of numbers that always gives the same ones.
+use crate::lines::{Kind, LINES, MAIN_SIZE, RECORDS_LINE, SIZE_LINE, STARTS};
+
+/// splitmix64.
+pub struct Rng(pub u64);
+
+impl Rng {
+    pub fn next(&mut self) -> u64 {
+        self.0 = self.0.wrapping_add(0x9e37_79b9_7f4a_7c15);
+        let mut z = self.0;
+        z = (z ^ (z >> 30)).wrapping_mul(0xbf58_476d_1ce4_e5b9);
+        z = (z ^ (z >> 27)).wrapping_mul(0x94d0_49bb_1331_11eb);
+        z ^ (z >> 31)
+    }
+    /// 0..n, n over 0.
+    pub fn below(&mut self, n: usize) -> usize {
+        (self.next() % n as u64) as usize
+    }
+    pub fn one_in(&mut self, n: usize) -> bool {
+        self.below(n) == 0
+    }
+    pub fn pick<T: Copy>(&mut self, from: &[T]) -> T {
+        from[self.below(from.len())]
+    }
+}
+
+pub const GROUPS: [u8; 16] = [0, 1, 2, 3, 4, 5, 6, 7, 8, 9, 10, 11, 12, 13, 15, 99];
+
+/// A product as it was laid out: its bytes, the starts of its records (the first is 0) and the places of its pointers.
+#[derive(Clone)]
+pub struct Product {
+    pub bytes: Vec<u8>,
+    pub starts: Vec<usize>,
+    pub pointers: Vec<usize>,
+}
+
+/// The layout to be built.
+pub struct Shape {
+    pub first_version: u8,
+    /// Class and size of the records after the main header, but for the pointers.
+    pub sphr: Option<usize>,
+    pub pointers: usize,
+    pub others: Vec<(u8, usize)>,
+    pub sorted: bool,
+    /// Bytes after the last record that D counts (fault 6 where 1..19).
+    pub rest: usize,
+}
+
+fn put_time(rng: &mut Rng, header: &mut [u8]) {
+    let (mut a, mut b) = ((rng.below(65536), rng.below(86_400_000)), (rng.below(65536), rng.below(86_400_000)));
+    if rng.one_in(4) {
+        b.0 = a.0;
+    }
+    if rng.one_in(16) {
+        b = a;
+    }
+    if rng.one_in(16) {
+        b = (65535, 86_399_999);
+    }
+    if a > b {
+        std::mem::swap(&mut a, &mut b);
+    }
+    for (from, (day, milli)) in [(8, a), (14, b)] {
+        header[from..from + 2].copy_from_slice(&(day as u16).to_be_bytes());
+        header[from + 2..from + 6].copy_from_slice(&(milli as u32).to_be_bytes());
+        if rng.one_in(5) {
+            header[from..from + 6].fill(0xff);
+        }
+    }
+}
+
+fn header(rng: &mut Rng, class: u8, group: u8, size: usize) -> [u8; 20] {
+    let mut h = [0; 20];
+    h[0] = class;
+    h[1] = group;
+    h[2] = rng.below(4) as u8;
+    h[3] = rng.below(256) as u8;
+    h[4..8].copy_from_slice(&(size as u32).to_be_bytes());
+    put_time(rng, &mut h);
+    h
+}
+
+/// A value that fits the line.
+fn value(rng: &mut Rng, kind: Kind, width: usize) -> Vec<u8> {
+    match kind {
+        Kind::Text => (0..width).map(|_| if rng.one_in(8) { rng.pick(b" ~x_") } else { 32 + rng.below(95) as u8 }).collect(),
+        Kind::Signed | Kind::Unsigned | Kind::Needed => {
+            if rng.one_in(5) {
+                return vec![b'x'; width];
+            }
+            let digits = 1 + rng.below(width);
+            let mut v = vec![b' '; width];
+            for b in &mut v[width - digits..] {
+                *b = b'0' + rng.below(10) as u8;
+            }
+            if kind == Kind::Signed && digits < width && rng.one_in(2) {
+                v[width - digits - 1] = rng.pick(b"+-");
+            }
+            v
+        }
+        Kind::Time | Kind::LongTime => {
+            if rng.one_in(6) {
+                return vec![b'x'; width];
+            }
+            if rng.one_in(6) {
+                let mut v = vec![b'x'; width];
+                v[width - 1] = b'Z';
+                return v;
+            }
+            let mut year = rng.below(10_000);
+            if rng.one_in(4) {
+                year = rng.pick(&[0, 4, 1900, 2000, 2024, 2100, 9999]);
+            }
+            let month = 1 + rng.below(12);
+            let leap = year % 4 == 0 && (year % 100 != 0 || year % 400 == 0);
+            let days = [31, if leap { 29 } else { 28 }, 31, 30, 31, 30, 31, 31, 30, 31, 30, 31][month - 1];
+            let day = if rng.one_in(4) { days } else { 1 + rng.below(days) };
+            let (h, m, s) = (rng.below(24), rng.below(60), rng.below(60));
+            let mut v = format!("{year:04}{month:02}{day:02}{h:02}{m:02}{s:02}");
+            if width == 18 {
+                v += &format!("{:03}", rng.below(1000));
+            }
+            (v + "Z").into_bytes()
+        }
+    }
+}
+
+/// A value written into a line that is already there, right-justified.
+pub fn set_number(bytes: &mut [u8], line: usize, n: u64) {
+    let (at, width) = (STARTS[line] + 32, LINES[line].1);
+    let text = format!("{n:>width$}");
+    assert_eq!(text.len(), width);
+    bytes[at..at + width].copy_from_slice(text.as_bytes());
+}
+
+pub fn get_number(bytes: &[u8], line: usize) -> u64 {
+    let (at, width) = (STARTS[line] + 32, LINES[line].1);
+    std::str::from_utf8(&bytes[at..at + width]).ok().and_then(|t| t.trim().parse().ok()).unwrap_or(0)
+}
+
+pub fn build(rng: &mut Rng, shape: &Shape) -> Product {
+    let mut bytes = vec![0; 20];
+    let first = header(rng, 1, 0, MAIN_SIZE);
+    bytes.copy_from_slice(&first);
+    bytes[2] = 0;
+    bytes[3] = shape.first_version;
+    for (name, width, kind) in LINES {
+        bytes.extend_from_slice(format!("{name:30}= ").as_bytes());
+        bytes.extend(value(rng, kind, width));
+        bytes.push(b'\n');
+    }
+    let mut starts = vec![0];
+    let mut totals = [0u64; 9];
+    totals[1] = 1;
+    let mut add = |bytes: &mut Vec<u8>, rng: &mut Rng, class: u8, size: usize| {
+        starts.push(bytes.len());
+        totals[class as usize] += 1;
+        let group = if class == 8 && rng.one_in(4) { 13 } else { rng.pick(&GROUPS) };
+        let h = header(rng, class, group, size);
+        bytes.extend_from_slice(&h);
+        let from = bytes.len();
+        bytes.resize(from + size - 20, 0);
+        // A long body is filled sparsely.
+        let step = 1 + size / 600;
+        for b in bytes[from..].iter_mut().step_by(step) {
+            *b = rng.next() as u8;
+        }
+    };
+    if let Some(size) = shape.sphr {
+        add(&mut bytes, rng, 2, size);
+    }
+    let mut pointers = Vec::new();
+    if !shape.others.is_empty() {
+        for _ in 0..shape.pointers {
+            pointers.push(bytes.len());
+            add(&mut bytes, rng, 3, 27);
+        }
+    }
+    for (class, size) in &shape.others {
+        add(&mut bytes, rng, *class, *size);
+    }
+    let first_other = starts.len() - shape.others.len();
+    let mut at: Vec<usize> = if pointers.len() == shape.others.len() && shape.sorted {
+        (0..pointers.len()).collect()
+    } else {
+        pointers.iter().map(|_| rng.below(shape.others.len())).collect()
+    };
+    if shape.sorted {
+        at.sort_unstable();
+    }
+    for (p, k) in pointers.iter().zip(at) {
+        let target = starts[first_other + k];
+        for i in 0..3 {
+            bytes[p + 20 + i] = bytes[target + i];
+        }
+        bytes[p + 23..p + 27].copy_from_slice(&(target as u32).to_be_bytes());
+    }
+    for _ in 0..shape.rest {
+        bytes.push(rng.next() as u8);
+    }
+    let size = bytes.len() as u64;
+    set_number(&mut bytes, SIZE_LINE, size);
+    set_number(&mut bytes, RECORDS_LINE, starts.len() as u64);
+    for class in 1..9 {
+        set_number(&mut bytes, RECORDS_LINE + class, totals[class]);
+    }
+    Product { bytes, starts, pointers }
+}
+
+/// A small shape: 0 to 40 records after the main header.
+pub fn shape(rng: &mut Rng) -> Shape {
+    let most = rng.pick(&[20, 21, 40, 60, 400]);
+    let size = |rng: &mut Rng| if most == 20 || rng.one_in(3) { 20 } else { 20 + rng.below(most - 19) };
+    let sphr = if rng.one_in(3) { Some(size(rng)) } else { None };
+    let n = rng.pick(&[0, 1, 2, 5, 12, 27]);
+    let n = rng.below(n + 1);
+    let mut classes: Vec<u8> = (0..n).map(|_| rng.pick(&[4, 5, 6, 7, 8, 8, 8])).collect();
+    classes.sort_by_key(|c| c / 2 * 2); // 4 and 5 may mix, 6 and 7 too
+    let others: Vec<(u8, usize)> = classes.into_iter().map(|c| (c, size(rng))).collect();
+    let pointers = if rng.one_in(3) { 0 } else { rng.below(13) };
+    Shape { first_version: rng.below(4) as u8, sphr, pointers, others, sorted: rng.one_in(2), rest: 0 }
+}
+
+/// The record a damage is aimed at: its place among the starts.
+fn aim(rng: &mut Rng, p: &Product) -> usize {
+    if rng.one_in(3) {
+        p.starts.len() - 1
+    } else {
+        rng.below(p.starts.len())
+    }
+}
+
+fn u32_at(bytes: &[u8], at: usize) -> u32 {
+    u32::from_be_bytes(bytes[at..at + 4].try_into().unwrap())
+}
+
+fn put_u32(bytes: &mut [u8], at: usize, n: u32) {
+    bytes[at..at + 4].copy_from_slice(&n.to_be_bytes());
+}
+
+/// Damage of row `row` of the table, at record k where it has one.
+pub fn damage(rng: &mut Rng, p: &mut Product, row: usize, k: usize) {
+    let len = p.bytes.len();
+    let s = if k < p.starts.len() { p.starts[k] } else { 0 };
+    let b = &mut p.bytes;
+    match row {
+        1 => {
+            let at = rng.pick(&[0usize, 1, 2, 4, 5, 6, 7]);
+            b[at] ^= 1 << rng.below(8);
+        }
+        2 => {
+            let line = rng.below(72);
+            let at = match rng.below(4) {
+                0 => STARTS[line + 1] - 1,
+                1 => STARTS[line] + 30 + rng.below(2),
+                _ => STARTS[line] + rng.below(30),
+            };
+            b[at] = rng.pick(b"\n A_=x\r\0z9").wrapping_add(if rng.one_in(4) { 128 } else { 0 });
+        }
+        3 => {
+            let line = if rng.one_in(4) { RECORDS_LINE + rng.below(9) } else { rng.below(72) };
+            let (at, width) = (STARTS[line] + 32, LINES[line].1);
+            let v = &mut b[at..at + width];
+            match rng.below(6) {
+                0 => v.fill(b'x'),
+                1 => v.fill(b' '),
+                2 => {
+                    v.fill(b'x');
+                    v[width - 1] = b'Z';
+                }
+                3 if width >= 15 => {
+                    let text: &[u8] = rng.pick(&[
+                        b"20230229000000" as &[u8],
+                        b"21000229000000",
+                        b"20001301000000",
+                        b"20000001000000",
+                        b"20000100000000",
+                        b"20000431000000",
+                        b"20000101240000",
+                        b"20000101006000",
+                        b"20000101000060",
+                        b"2000 101000000",
+                        b"00000229235959",
+                    ]);
+                    v[..14].copy_from_slice(text);
+                }
+                _ => v[rng.below(width)] = rng.pick(b" +-xXZz0959\t\n\x7f\x1f~/:").wrapping_add(if rng.one_in(8) { 128 } else { 0 }),
+            }
+        }
+        4 => {
+            let n = rng.pick(&[0, 3306, 3307, 3308, 3326, 3327, 2_147_483_647, 2_147_483_648, 4_294_970_603, 99_999_999_999]);
+            set_number(b, SIZE_LINE, n);
+        }
+        5 => {
+            let line = RECORDS_LINE + rng.below(9);
+            let n = get_number(b, line);
+            let n = rng.pick(&[0, 1, 2, 999_999, (n + 1) % 1_000_000, n.saturating_sub(1)]);
+            set_number(b, line, n % 1_000_000);
+            if rng.one_in(2) {
+                let sum: u64 = (1..9).map(|c| get_number(b, RECORDS_LINE + c)).sum();
+                set_number(b, RECORDS_LINE, sum.min(999_999));
+            }
+        }
+        6 => {
+            // D moved, with or without bytes
+            let n = 1 + rng.below(20);
+            if rng.one_in(3) {
+                let d = get_number(b, SIZE_LINE).saturating_sub(n as u64);
+                set_number(b, SIZE_LINE, d);
+            } else {
+                let d = get_number(b, SIZE_LINE) + n as u64;
+                set_number(b, SIZE_LINE, d.min(99_999_999_999));
+                for _ in 0..n {
+                    b.push(rng.next() as u8);
+                }
+            }
+        }
+        7 if s > 0 => {
+            if rng.one_in(2) {
+                b[s] = rng.pick(&[0, 9, 10, 255, 128]);
+            } else {
+                b[s + 1] = rng.pick(&[14, 16, 98, 100, 255, 127]);
+            }
+        }
+        8 if s > 0 => b[s] = 1 + rng.below(8) as u8,
+        9 if s > 0 => {
+            let size = u32_at(b, s + 4);
+            let left = (len - s) as u32;
+            let n = rng.pick(&[0, 5, 8, 19, 20, 26, 27, 28, left, left + 1, left - 1, 0xffff_ffff, 0x8000_0000, size + 1, size.wrapping_sub(1)]);
+            put_u32(b, s + 4, n);
+        }
+        10 => {
+            let at = s + rng.pick(&[8usize, 14]);
+            match rng.below(5) {
+                0 => put_u32(b, at + 2, 86_400_000),
+                1 => put_u32(b, at + 2, 86_399_999),
+                2 => b[at..at + 6].copy_from_slice(&[255, 255, 255, 255, 255, 254]),
+                3 => b[at..at + 6].copy_from_slice(&[255, 254, 255, 255, 255, 255]),
+                _ => {
+                    let (x, y) = b[s + 8..s + 20].split_at_mut(6);
+                    x.swap_with_slice(y);
+                }
+            }
+        }
+        11 | 15 => {
+            let class = if s > 0 && (1..9).contains(&b[s]) && rng.one_in(2) { b[s] as usize } else { 2 + rng.below(7) };
+            let n = get_number(b, RECORDS_LINE + class);
+            let n = if row == 11 { n.saturating_sub(1) } else { (n + 1) % 1_000_000 };
+            set_number(b, RECORDS_LINE + class, n);
+            let sum: u64 = (1..9).map(|c| get_number(b, RECORDS_LINE + c)).sum();
+            set_number(b, RECORDS_LINE, sum.min(999_999));
+        }
+        12 if !p.pointers.is_empty() => {
+            let at = rng.pick(&p.pointers);
+            match rng.below(3) {
+                0 => b[at + 20] = rng.pick(&[0, 1, 2, 3, 9, 255]),
+                1 => put_u32(b, at + 23, rng.pick(&[0, 20, at, at + 26, at + 27, at.saturating_sub(27)]) as u32),
+                _ => put_u32(b, at + 23, rng.pick(&[len - 20, len - 19, len, 0xffff_ffff, 0xffff_ffec]) as u32),
+            }
+        }
+        13 if !p.pointers.is_empty() => {
+            let at = rng.pick(&p.pointers);
+            let size = if k + 1 < p.starts.len() { p.starts[k + 1] - s } else { len.saturating_sub(s) };
+            if s > at && size > 1 && rng.one_in(2) {
+                put_u32(b, at + 23, (s + 1 + rng.below(size - 1)) as u32);
+            } else {
+                let n = u32_at(b, at + 23);
+                put_u32(b, at + 23, n.wrapping_add(rng.pick(&[1, 2, 19, 20, 27, 0xffff_ffff])));
+            }
+        }
+        14 if !p.pointers.is_empty() => {
+            let at = rng.pick(&p.pointers);
+            match rng.below(3) {
+                0 => put_u32(b, at + 23, s as u32),
+                1 => {
+                    let i = rng.below(3);
+                    b[at + 20 + i] = if i == 0 { 4 + rng.below(5) as u8 } else { rng.below(16) as u8 };
+                }
+                _ if s > 0 => {
+                    b[s + 1] = rng.pick(&GROUPS);
+                    b[s + 2] = b[s + 2].wrapping_add(1);
+                }
+                _ => {}
+            }
+        }
+        16 => {
+            for _ in 0..1 + rng.below(40) {
+                b.push(rng.next() as u8);
+            }
+        }
+        _ => {}
+    }
+}
+
+/// What was made, for counting.
+#[derive(Clone, Copy, Debug, PartialEq, Eq)]
+pub enum Made {
+    Valid,
+    Row(usize),
+    Pair(usize, usize),
+    Cut,
+    Extended,
+    Noise,
+}
+
+/// Product `n` of the sequence: rows take their turns, then pairs, noise and the rest.
+pub fn product(rng: &mut Rng, n: usize) -> (Product, Made) {
+    let mut shape = shape(rng);
+    let turn = n % 40;
+    let mut p = match turn {
+        6 | 20..=23 if rng.one_in(2) => {
+            shape.rest = 1 + rng.below(19);
+            build(rng, &shape)
+        }
+        _ => build(rng, &shape),
+    };
+    let made = match turn {
+        1..=16 => {
+            let k = aim(rng, &p);
+            damage(rng, &mut p, turn, k);
+            Made::Row(turn)
+        }
+        // Two at one record, or at the two ends of it.
+        17..=29 => {
+            let k = aim(rng, &p);
+            let rows = [6, 7, 8, 9, 10, 11, 12, 13, 14, 15];
+            let (a, c) = (rng.pick(&rows), rng.pick(&rows));
+            damage(rng, &mut p, a, k);
+            damage(rng, &mut p, c, k);
+            Made::Pair(a, c)
+        }
+        30..=32 => {
+            let (a, c) = (1 + rng.below(16), 1 + rng.below(16));
+            for row in [a, c] {
+                let k = aim(rng, &p);
+                damage(rng, &mut p, row, k);
+            }
+            Made::Pair(a, c)
+        }
+        33 => {
+            let to = rng.below(p.bytes.len() + 1);
+            p.bytes.truncate(to);
+            Made::Cut
+        }
+        34 => {
+            for _ in 0..1 + rng.below(60) {
+                p.bytes.push(rng.next() as u8);
+            }
+            Made::Extended
+        }
+        35 => {
+            // Bytes at random anywhere, or nothing but such.
+            if rng.one_in(4) {
+                let n = rng.below(5000);
+                p.bytes = (0..n).map(|_| rng.next() as u8).collect();
+            } else {
+                for _ in 0..1 + rng.below(3) {
+                    let from = if rng.one_in(2) { 0 } else { MAIN_SIZE.min(p.bytes.len() - 1) };
+                    let at = from + rng.below(p.bytes.len() - from);
+                    p.bytes[at] = rng.next() as u8;
+                }
+            }
+            Made::Noise
+        }
+        _ if shape.rest > 0 => Made::Row(6),
+        _ => Made::Valid,
+    };
+    (p, made)
+}
+
+/// A length to judge at: all, anywhere, or beside a place where something is shown.
+pub fn prefix(rng: &mut Rng, p: &Product) -> usize {
+    let len = p.bytes.len();
+    let near = match rng.below(12) {
+        0..=4 => return len,
+        5 => return rng.below(len + 1),
+        6 => STARTS[rng.below(73)],
+        7 => rng.pick(&[0, 19, 20, 21, 1496, 1497, 2993, 2994, 3306, 3307, 3308]),
+        8 => get_size(&p.bytes),
+        _ => rng.pick(&p.starts) + rng.pick(&[0, 5, 8, 20, 27]),
+    };
+    (near + rng.below(3)).saturating_sub(1).min(len)
+}
+
+fn get_size(bytes: &[u8]) -> usize {
+    if bytes.len() < 1497 {
+        return 0;
+    }
+    get_number(bytes, SIZE_LINE) as usize
+}

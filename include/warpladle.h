@@ -50,6 +50,13 @@ void wl_field_named(const uint8_t *name, size_t len, uint64_t answer[4]);
  * in the point; 0, 0, 0, 0 where a field is undefined, the point kept; or the refusal of a field query, the point kept. */
 void wl_ground_point(const uint8_t *bytes, size_t len, uint8_t which, double point[2], uint64_t answer[4]);
 
+/* ---- the listing */
+
+/* A product's records as text at the start of the room: 0, 0, the bytes written, 0, with a line for the count and one for each record (start, class,
+ * group, subclass, version, size), what lies beyond kept; or 23 with 65536 over 65,536 bytes, the refusal of the finished judge 1 to 17, or 18 with
+ * the bytes needed. */
+void wl_listing(const uint8_t *bytes, size_t len, uint8_t *text, size_t room, uint64_t answer[4]);
+
 /* ---- times: a day counted from 1 January 2000 and a millisecond of that day */
 
 /* The time in the 6 bytes from `at` on: 0, 0, defined, day, millisecond, 0; or 20, 21. */

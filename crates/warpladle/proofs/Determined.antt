@@ -23,10 +23,12 @@ use Rattle.meter.specs.declared.time.Time.{Time}
 use Rattle.record.specs.Header.{WritesHeader}
 use Rattle.record.specs.declared.header.Header.{Header}
 use Rattle.text.specs.declared.Number.{Number}
+use Rattle.listing.specs.Listing.{ListedIs}
+use Rattle.listing.specs.declared.Listed.{Listed}
 use Rattle.mphr.specs.Lines.{WritesTextLine, WritesNumberLine, WritesTimeLine}
 use Rattle.warpladle.specs.Told.{Told}
 use Rattle.warpladle.specs.Given.{isSet}
-use Rattle.warpladle.specs.Judging.{ArrivalTold, FinishedTold, RecordTold}
+use Rattle.warpladle.specs.Judging.{ArrivalTold, FinishedTold, RecordTold, ListingTold}
 use Rattle.warpladle.specs.Fields.{longField, pairOf, NumberTold, TimeTold, TextTold, FieldTold, PointTold}
 use Rattle.warpladle.specs.Leaves.{TimeReadTold, TextTimeTold, OrderTold, WriteTimeTold, TimeTextTold, ScaledTold, WriteScaledTold, RoundedTold, shownLeft, ReadingTold}
 use Rattle.warpladle.specs.Leaves.{HeaderTold, WriteHeaderTold, TextLineTold, NumberLineTold, TimeLineTold}
@@ -36,6 +38,7 @@ use Rattle.mphr.proofs.Determined as D
 use Rattle.demands.proofs.Prefix as J
 use Rattle.demands.proofs.Accepted as F
 use Rattle.query.proofs.QueryDetermined as Q
+use Rattle.listing.proofs.Determined as L
 
 -- of an answer that is one the numbers are
 one-told : {A : Type 0} {Right : A → Type 0} {said : A → List ℕ} {n m : List ℕ} → ((r s : A) → Right r → Right s → r ≡ s) → Told Right said n → Told Right said m → n ≡ m
@@ -54,6 +57,9 @@ unique-wl-finished a ix x y n m = two-told (λ (z : List ℕ) (r : Finished). Fi
 
 pub unique-wl-record : (a : List ℕ) (k : ℕ) (n m : List ℕ) → RecordTold a k n → RecordTold a k m → n ≡ m
 unique-wl-record a k n m = one-told (Q.unique-record-at a k)
+
+pub unique-wl-listing : (a room x y n m : List ℕ) → ListingTold a room x n → ListingTold a room y m → (x ≡ y) × (n ≡ m)
+unique-wl-listing a room x y n m = two-told (λ (e : List ℕ) (r : Listed). ListedIs a room r e) x y (λ r s. L.unique-list a room r s x y)
 
 pub unique-wl-number-field : (a : List ℕ) (k : ℕ) (n m : List ℕ) → NumberTold a k n → NumberTold a k m → n ≡ m
 unique-wl-number-field a k n m = one-told (Q.unique-number-field a k)

@@ -1,4 +1,5 @@
--- The judges and the record query for hosts that are not Rattle: the promises of `judge` and `query`, told as numbers. Assumes nothing.
+-- The judges, the record query and the listing for hosts that are not Rattle: the promises of `judge`, `query` and `listing`, told as numbers.
+-- Assumes nothing.
 use Prim.Native.Nat.{ℕ}
 use mathlib.Core.List.{List, [], _∷_}
 use Rattle.judge.specs.Table.{Judged}
@@ -10,6 +11,9 @@ use Rattle.judge.specs.declared.finished.Finished.the-variants as F
 use Rattle.query.specs.Query.{RecordIs}
 use Rattle.query.specs.declared.RecordAnswer.{RecordAnswer}
 use Rattle.query.specs.declared.RecordAnswer.the-variants as R
+use Rattle.listing.specs.Listing.{ListedIs}
+use Rattle.listing.specs.declared.Listed.{Listed}
+use Rattle.listing.specs.declared.Listed.the-variants as L
 use Rattle.warpladle.specs.Told.{Told, refused4, refused16, one4, header16}
 
 -- waiting: the end of the last whole record, and the count
@@ -36,3 +40,12 @@ recordSaid (R.Refused r) = refused16 r
 
 abbrev pub RecordTold : List ℕ → ℕ → List ℕ → Type 0
 RecordTold a k numbers = Told (RecordIs a k) recordSaid numbers
+
+-- listed: the bytes written
+abbrev pub listedSaid : Listed → List ℕ
+listedSaid (L.Bytes n) = one4 n
+listedSaid (L.Refused r) = refused4 r
+
+-- the room has become exit
+abbrev pub ListingTold : List ℕ → List ℕ → List ℕ → List ℕ → Type 0
+ListingTold a room exit numbers = Told (λ (r : Listed). ListedIs a room r exit) listedSaid numbers

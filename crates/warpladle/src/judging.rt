@@ -1,4 +1,4 @@
-// The judges and the record query.
+// The judges, the record query and the listing.
 use crate::put::put_header;
 use crate::put::put_one;
 use crate::put::put4;
@@ -8,10 +8,13 @@ use judge::arrival::Arrival;
 use judge::arrival::judge_arrival;
 use judge::finished::Finished;
 use judge::finished::judge_finished;
+use listing::Listed;
+use listing::list_product;
 use query::RecordAnswer;
 use query::record_at;
 ghost use mathlib.Core.Path.{_≡_};
 ghost use Rattle.warpladle.specs.Judging.{arrivalSaid, ArrivalTold, finishedSaid, FinishedTold, recordSaid, RecordTold};
+ghost use Rattle.warpladle.specs.Judging.{listedSaid, ListingTold};
 
 fn put_arrival(answer: &mut [u64; 4], judged: Arrival)
     ensures { λ _. ⌜ now (answer .exit) ≡ arrivalSaid judged ⌝ }
@@ -62,4 +65,21 @@ pub extern "C" fn wl_record(bytes: &[u8], k: usize, answer: &mut [u64; 16])
     ensures { λ _. ⌜ RecordTold (now (bytes .entry)) k (now (answer .exit)) ⌝ }
 {
     put_record(answer, record_at(bytes, k));
+}
+
+fn put_listed(answer: &mut [u64; 4], listed: Listed)
+    ensures { λ _. ⌜ now (answer .exit) ≡ listedSaid listed ⌝ }
+{
+    match listed {
+        Listed::Bytes(n) => put_one(answer, n as u64),
+        Listed::Refused(r) => refuse4(answer, r),
+    }
+}
+
+// The listing of a product at the start of the room: 0, 0, the bytes written, 0.
+#[no_mangle]
+pub extern "C" fn wl_listing(bytes: &[u8], text: &mut [u8], answer: &mut [u64; 4])
+    ensures { λ _. ⌜ ListingTold (now (bytes .entry)) (now (text .entry)) (now (text .exit)) (now (answer .exit)) ⌝ }
+{
+    put_listed(answer, list_product(bytes, text));
 }

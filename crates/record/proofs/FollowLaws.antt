@@ -5,6 +5,7 @@ use mathlib.Core.Bool.{Bool, true, false, cond, _&&_, _||_, and-false, Bool·beq
 use mathlib.Core.List.{List, []}
 use Prim.Native.Nat.{ℕ, zero, suc, _-_, _≤_, _<_}
 use native.Mathlib.Omega.{arith}
+use native.Mathlib.Numerals.{unary-clauses}
 use borrow.Author.Tests.{leb-true, lt-leb, ne-eqb}
 use lib.Dec.{T, eqb, leb}
 use lib.ListN.{length, getD}
@@ -13,35 +14,27 @@ use Rattle.record.specs.Follow.{firstAfter, mayFollow}
 use Rattle.record.proofs.FieldLaws.{both}
 
 -- ---- beyond the classes
+-- no class is 9 or more
+nine : (next : ℕ) → leb 9 next && leb next 8 ≡ false
+nine next = go (leb 9 next) refl
+  where
+    go : (b : Bool) → leb 9 next ≡ b → b && leb next 8 ≡ false
+    go true e = lt-leb next 8 (leb-true 9 next e)
+    go false e = refl
+
 pub after-none : (last next : ℕ) → 8 < last → mayFollow last next ≡ false
 unfolding mayFollow firstAfter
 after-none last next h =
-    rw (ne-eqb last 1 (λ e. omega arith), ne-eqb last 2 (λ e. omega arith), ne-eqb last 3 (λ e. omega arith), ne-eqb last 4 (λ e. omega arith), ne-eqb last 5 (λ e. omega arith), ne-eqb last 6 (λ e. omega arith), ne-eqb last 7 (λ e. omega arith), ne-eqb last 8 (λ e. omega arith)) (none (leb 9 next) refl)
-  where
-    none : (b : Bool) → leb 9 next ≡ b → b && leb next 8 ≡ false
-    none true e = lt-leb next 8 (leb-true 9 next e)
-    none false e = refl
+    rw (ne-eqb last 1 (λ e. omega arith), ne-eqb last 2 (λ e. omega arith), ne-eqb last 3 (λ e. omega arith), ne-eqb last 4 (λ e. omega arith), ne-eqb last 5 (λ e. omega arith), ne-eqb last 6 (λ e. omega arith), ne-eqb last 7 (λ e. omega arith), ne-eqb last 8 (λ e. omega arith)) (nine next)
 
 pub none-after : (last next : ℕ) → 8 < next → mayFollow last next ≡ false
 unfolding mayFollow
 none-after last next h = rw (lt-leb next 8 h) (and-false (leb (firstAfter last) next))
 
--- ---- a table of yes and no that agrees with the rule, in each of its 81 places
-abbrev agrees : List (List Bool) → ℕ → ℕ → Bool
-agrees t last next = Bool·beq (getD (getD t last []) next false) (mayFollow last next)
-
-abbrev pub isTable : List (List Bool) → Bool
-isTable t = below (λ (last : ℕ). below (agrees t last) 9) 9
-
-pub in-table : (t : List (List Bool)) → T (isTable t) → (last next : ℕ) → last < 9 → next < 9 → getD (getD t last []) next false ≡ mayFollow last next
-in-table t e last next h l =
-    same (getD (getD t last []) next false) (mayFollow last next)
-    (at (agrees t last) 9 (at (λ (last : ℕ). below (agrees t last) 9) 9 e last h) next l)
-
--- ---- one MPHR, at most one SPHR
--- each class may follow the one before it
-abbrev pub Follows : List ℕ → Type 0
-Follows cs = (k : ℕ) → suc k < length cs → mayFollow (getD cs k 0) (getD cs (suc k) 0) ≡ true
+pub after-zero : (last next : ℕ) → last < 1 → mayFollow last next ≡ false
+unfolding mayFollow firstAfter
+after-zero zero next h = nine next
+after-zero (suc last) next h = absurd (omega arith)
 
 from-two : (c : ℕ) → 2 ≤ firstAfter c
 unfolding firstAfter
@@ -54,6 +47,30 @@ from-two c = go (eqb c 1) (eqb c 2 || eqb c 3) (eqb c 4 || eqb c 5) (eqb c 6 || 
     go false false false true t = omega arith
     go false false false false true = omega arith
     go false false false false false = omega arith
+
+pub zero-after : (last next : ℕ) → next < 1 → mayFollow last next ≡ false
+unfolding mayFollow
+zero-after last next h = rw (lt-leb (firstAfter last) next (omega (arith, from-two last))) refl
+
+-- ---- a table of yes and no that agrees with the rule, in each of its 64 places: a row for each class, a column for each class
+abbrev agrees : List (List Bool) → ℕ → ℕ → Bool
+agrees t i j = Bool·beq (getD (getD t i []) j false) (mayFollow (suc i) (suc j))
+
+abbrev pub isTable : List (List Bool) → Bool
+isTable t = below (λ (i : ℕ). below (agrees t i) 8) 8
+
+pub in-table : (t : List (List Bool)) → T (isTable t) → (last next : ℕ) → 1 ≤ last → last ≤ 8 → 1 ≤ next → next ≤ 8 → getD (getD t (last - 1) []) (next - 1) false ≡ mayFollow last next
+in-table t e zero next h l m n = absurd (omega arith)
+in-table t e (suc i) zero h l m n = absurd (omega arith)
+in-table t e (suc i) (suc j) h l m n =
+    simp unary-clauses
+    (same (getD (getD t i []) j false) (mayFollow (suc i) (suc j))
+    (at (agrees t i) 8 (at (λ (i : ℕ). below (agrees t i) 8) 8 e i (omega arith)) j (omega arith)))
+
+-- ---- one MPHR, at most one SPHR
+-- each class may follow the one before it
+abbrev pub Follows : List ℕ → Type 0
+Follows cs = (k : ℕ) → suc k < length cs → mayFollow (getD cs k 0) (getD cs (suc k) 0) ≡ true
 
 from-three : (c : ℕ) → 2 ≤ c → 3 ≤ firstAfter c
 unfolding firstAfter

@@ -1,22 +1,13 @@
 -- The index's filling: what is known before each store. By the way that is left from the record at hand to the product's end. Assumes nothing.
 use Prim.Native.Nat.{ℕ, _+_, _-_, _≤_, _<_}
+use native.Mathlib.Decide.{ℕ-discrete}
 use native.Mathlib.Omega.{arith}
-use mathlib.Core.Path.{_≡_, refl, sym, _∙_}
+use mathlib.Core.Path.{_≡_, refl, sym, ap, _∙_}
 use mathlib.Core.List.{List}
 use lib.ListN.{length, set, length-set}
 use Rattle.judge.specs.Table.{Site, site, first, classAt, sizeAt, oneMore, Leads, here, on, next}
-use Rattle.judge.specs.Finish.{starts, put, Filled, Fillable}
+use Rattle.judge.specs.Finish.{starts, put, Filled, Fillable, Filling}
 use Rattle.judge.proofs.WayLaws.{leads-le, counts, goes}
-
--- ix₀ is the index with the main header in it; k starts are in, and the record at byte i is the next; with the rest written in it is as it shall be
-pub record Filling (a ix₀ ix : List ℕ) (k i : ℕ) : Type 0 where
-  pub asked : Fillable a ix₀
-  pub prev : ℕ
-  pub tally : List ℕ
-  pub rest : Leads a (site k i prev tally) (asked .covered .last)
-  pub counted : k ≤ i
-  pub size : length ix ≡ length ix₀
-  pub same : put k (starts rest) ix ≡ put 1 (starts (asked .covered .way)) ix₀
 
 pub filling-first : {a ix : List ℕ} → Fillable a ix → Filling a (set ix 0 0) (set ix 0 0) 1 3307
 filling-first f = record {
@@ -84,6 +75,21 @@ filling-last {ix = ix} f h =
       fits = omega (arith, m .0, q .covered .counted, simp length-set at (q .room));
       index = sym (m .1) ∙ f .same;
     }
+
+-- ---- a stretch of records of one size
+-- from the record at byte i, with k starts in, to the one at byte e, with c starts in: z is the size of the first
+pub record Alike (a ix₁ : List ℕ) (k i z : ℕ) (ix : List ℕ) (c e : ℕ) : Type 0 where
+  pub kept : (ix₀ : List ℕ) → Filling a ix₀ ix₁ k i → Filling a ix₀ ix c e
+  pub from : i ≤ e
+  pub begun : e ≡ i → z ≡ sizeAt a i
+
+-- where another size stands the first record is in
+pub moved-on : {a ix₁ ix : List ℕ} {k i z c e : ℕ} → Alike a ix₁ k i z ix c e → (sizeAt a e ≡ z → ⊥) → i < e
+moved-on {a} {i = i} {e = e} v n = go (ℕ-discrete e i)
+  where
+    go : Dec (e ≡ i) → i < e
+    go (yes q) = absurd (n (ap (sizeAt a) q ∙ sym (v .begun q)))
+    go (no q) = omega (arith, v .from, q)
 
 -- the measure falls
 pub less : {n i z : ℕ} → i < n → 1 ≤ z → n - (i + z) < n - i

@@ -7,9 +7,10 @@ use mathlib.Core.List.{List, [], _∷_}
 use lib.ListN.{length, set}
 use Rattle.calendar.specs.Said.{refusing}
 use Rattle.mphr.specs.Table.{declared}
-use Rattle.judge.specs.Table.{Site, first, Leads, here, on, Clean, Given}
+use Rattle.judge.specs.Table.{Site, site, first, Leads, here, on, Clean, Given}
 use Rattle.judge.specs.declared.finished.Finished.{Finished}
 use Rattle.judge.specs.declared.finished.Finished.the-variants.{Accepted, Refused}
+use Rattle.judge.specs.declared.finished.Reached.{Reached}
 
 -- the starts of the records on the way from x to y
 abbrev pub starts : {a : List ℕ} {x y : Site} → Leads a x y → List ℕ
@@ -62,6 +63,27 @@ pub record Fillable (a ix : List ℕ) : Type 0 where
   pub come : length a ≡ declared a
   pub small : length a ≤ 2147483647
   pub room : count ≤ length ix
+
+-- what is known between two stores. ix₀ is the index with the main header in it; k starts are in, and the record at byte i is the next; with the
+-- rest written in it is as it shall be
+pub record Filling (a ix₀ ix : List ℕ) (k i : ℕ) : Type 0 where
+  pub asked : Fillable a ix₀
+  pub prev : ℕ
+  pub tally : List ℕ
+  pub rest : Leads a (site k i prev tally) (asked .covered .last)
+  pub counted : k ≤ i
+  pub size : length ix ≡ length ix₀
+  pub same : put k (starts rest) ix ≡ put 1 (starts (asked .covered .way)) ix₀
+
+-- what the filling of a stretch of records asks, and what it comes to
+pub record Stretch (a ix : List ℕ) (k i : ℕ) : Type 0 where
+  pub ix₀ : List ℕ
+  pub filling : Filling a ix₀ ix k i
+  pub inside : i < length a
+
+pub record Stretched (a ix : List ℕ) (k i : ℕ) (r : Reached) (ix′ : List ℕ) : Type 0 where
+  pub further : i < r .end
+  pub filling : (ix₀ : List ℕ) → Filling a ix₀ ix k i → Filling a ix₀ ix′ (r .count) (r .end)
 
 abbrev pub refusedWith : ℕ → ℕ → Finished
 refusedWith n p = Refused (refusing n p)

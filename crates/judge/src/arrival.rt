@@ -1,5 +1,6 @@
 // The arrival judge: one pass over the records' headers, in constant memory; payloads are not read.
 use crate::header::is_part;
+use crate::header::look_ahead;
 use crate::header::rank;
 use crate::header::word;
 use crate::pointers::Body;
@@ -162,7 +163,9 @@ fn walk(s: &[u8]) -> Arrival
     let mut at: usize = 3307;
     let mut prev: u8 = 1;
     let mut w = no_pointers(d);
+    let mut near: usize = 0;
     while at < d {
+        near = look_ahead(s, at, near);
         match turn(s, &totals, &tally, d, count, at, prev, w) {
             Turned::Stop(answer) => {
                 return answer;

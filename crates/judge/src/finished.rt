@@ -5,11 +5,37 @@ use crate::arrival::size_of;
 use crate::header::word;
 use calendar::Refusal;
 ghost use mathlib.Core.Path.{_≡_};
-ghost use Rattle.judge.specs.Finish.{Fillable, Filled, FinishedIs, refusedWith};
+ghost use Rattle.judge.specs.Finish.{Stretch, Stretched, Fillable, Filled, FinishedIs, refusedWith};
 
 pub enum Finished {
     Accepted { count: usize },
     Refused(Refusal),
+}
+
+// How many starts are in the index, and where the next record starts.
+pub struct Reached {
+    pub count: usize,
+    pub end: usize,
+}
+
+// The starts of the records from `at` on that are of one size go into the index, from place k on. The next start is known before the size that
+// stands there has come from memory, so the sizes are read side by side.
+fn fill_alike(s: &[u8], index: &mut [u32], k: usize, at: usize) -> Reached
+    requires { ⌜ Stretch (now s) (now index) k at ⌝ }
+    ensures { λ r. ⌜ Stretched (now (s .entry)) (now (index .entry)) k at r (now (index .exit)) ⌝ }
+{
+    let size = word(s, at + 4);
+    let mut count = k;
+    let mut end = at;
+    while end < s.len() {
+        if word(s, end + 4) != size {
+            return Reached { count, end };
+        }
+        index[count] = end as u32;
+        count += 1;
+        end += size;
+    }
+    Reached { count, end }
 }
 
 // The records' starts go into the index, the main header's first; their number comes back.
@@ -21,9 +47,9 @@ fn fill(s: &[u8], index: &mut [u32]) -> usize
     let mut k: usize = 1;
     let mut at: usize = 3307;
     while at < s.len() {
-        index[k] = at as u32;
-        k += 1;
-        at += word(s, at + 4);
+        let reached = fill_alike(s, index, k, at);
+        k = reached.count;
+        at = reached.end;
     }
     k
 }

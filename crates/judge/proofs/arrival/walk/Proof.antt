@@ -19,10 +19,10 @@ use Rattle.judge.proofs.arrival.walk.Statement.{statement}
 use Rattle.judge.proofs.arrival.walk.Tie as tie
 
 abbrev Inv-loop : tie.InvT-loop
-Inv-loop s d totals tally₀ count₀ at₀ prev₀ w₀ tally count at prev w = Turn s (site count at prev tally) × Kept s at w
+Inv-loop s d totals tally₀ count₀ at₀ prev₀ w₀ near₀ tally count at prev w near = Turn s (site count at prev tally) × Kept s at w
 
 abbrev μ-loop : tie.MeasureT-loop
-μ-loop s d totals tally₀ count₀ at₀ prev₀ w₀ tally count at prev w = d - at
+μ-loop s d totals tally₀ count₀ at₀ prev₀ w₀ near₀ tally count at prev w near = d - at
 
 abbrev E : tie.At-loop Inv-loop μ-loop → tie.Else1 Inv-loop μ-loop
 E c = c .before .before .before .before .before
@@ -40,7 +40,7 @@ abbrev x : tie.At-loop Inv-loop μ-loop → Site
 x c = site (c .loop .count) (c .loop .at) (c .loop .prev) (c .loop .tally)
 
 abbrev T : tie.After-turn Inv-loop μ-loop → tie.At-loop Inv-loop μ-loop
-T c = c .before .before .before .before
+T c = c .before .before .before .before .before
 
 told : (c : tie.After-turn Inv-loop μ-loop) (r : Turned) → c .turn .result ≡ r → TurnedIs (a (T c)) (x (T c)) r
 told c r e = subst (TurnedIs (a (T c)) (x (T c))) e (c .turn .ensures)
@@ -86,6 +86,9 @@ loop-holds c =
       subst (Kept (now (s .args .s)) 3307) (sym (c .no-pointers .ensures)) (kept-first (s .pre .come)),
     )
 
+look-ahead-requires : tie.Need-look-ahead-requires Inv-loop μ-loop
+look-ahead-requires c κs = c .before .loop .inv .0 .come
+
 slice-aggregate-turn : tie.Need-slice-aggregate-turn Inv-loop μ-loop
 slice-aggregate-turn c = search needs
 
@@ -94,8 +97,8 @@ slice-aggregate-turn-2 c = search needs
 
 turn-requires : tie.Need-turn-requires Inv-loop μ-loop
 turn-requires c κs =
-    let l = c .before .before .before in
-    record { d-is = size l .0; small = size l .2; room = c .before .before .loop-test .taken; totals = totals l; turn = l .loop .inv .0; kept = l .loop .inv .1 }
+    let l = c .before .before .before .before in
+    record { d-is = size l .0; small = size l .2; room = c .before .before .before .loop-test .taken; totals = totals l; turn = l .loop .inv .0; kept = l .loop .inv .1 }
 
 enum-known-answer : tie.Need-enum-known-answer Inv-loop μ-loop
 enum-known-answer c = search needs
@@ -125,7 +128,7 @@ add-count : tie.Need-add-count Inv-loop μ-loop
 add-count c = record { fits = omega (arith, L c .loop .inv .0 .counted, L c .loop .inv .0 .inside, size (L c)) }
 
 loop-less : tie.Need-loop-less Inv-loop μ-loop
-loop-less c = omega (arith, gone c .further, c .before .before .before .before .before .before .loop-test .taken)
+loop-less c = omega (arith, gone c .further, c .before .before .before .before .before .before .before .loop-test .taken)
 
 loop-again : tie.Need-loop-again Inv-loop μ-loop
 loop-again c = (gone c .turn, gone c .kept)
@@ -158,6 +161,7 @@ walk-spec =
     put-totals-requires
     no-pointers-requires
     loop-holds
+    look-ahead-requires
     slice-aggregate-turn
     slice-aggregate-turn-2
     turn-requires

@@ -1,6 +1,6 @@
 -- DETERMINED: no second answer, and no second room at exit, fits a promise of this crate. Each answer says one thing of the paper's and
 -- is made again from it (`unsaid`), so one shared lemma serves all; a writer's room is an equation. Assumes nothing.
-use mathlib.Core.Path.{_≡_, refl}
+use mathlib.Core.Path.{_≡_, refl, sym, _∙_}
 use mathlib.Core.Bool.{Bool}
 use mathlib.Core.List.{List}
 use Prim.Native.Nat.{ℕ}
@@ -8,7 +8,7 @@ use Rattle.calendar.specs.Said.{Said, answer, refusal, refusing}
 use Rattle.calendar.proofs.Determined.{fixes, only}
 use Rattle.meter.specs.declared.integer.Written.{Written}
 use Rattle.meter.proofs.Determined.{one-writing}
-use Rattle.record.specs.Header.{isClass, isGroup, isHeader, headerReadAt, saidHeader, putHeader, WritesHeader}
+use Rattle.record.specs.Header.{sizeThere, isClass, isGroup, isHeader, headerReadAt, saidHeader, putHeader, WritesHeader}
 use Rattle.record.specs.Pointer.{isPointer, pointerReadAt, saidPointer, putPointer, WritesPointer}
 use Rattle.record.specs.Follow.{mayFollow}
 use Rattle.record.specs.Times.{timesStand}
@@ -45,6 +45,9 @@ unique-read-pointer a at = fixes saidPointer unsaidPointer pointer-back (pointer
 
 pub unique-may-follow : (last next : ℕ) (r s : Bool) → r ≡ mayFollow last next → s ≡ mayFollow last next → r ≡ s
 unique-may-follow last next = only (mayFollow last next)
+
+pub unique-size-at : (a : List ℕ) (at r s : ℕ) → r ≡ sizeThere a at → s ≡ sizeThere a at → r ≡ s
+unique-size-at a at r s e f = e ∙ sym f
 
 pub unique-is-class : (c : ℕ) (r s : Bool) → r ≡ isClass c → s ≡ isClass c → r ≡ s
 unique-is-class c = only (isClass c)

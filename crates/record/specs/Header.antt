@@ -1,18 +1,22 @@
 -- Record headers (01, "Record header, 20 bytes": class 0, instrument group 1, subclass 2, subclass version 3, record size 4..7, start time
 -- 8..13, stop time 14..19; 002, tables 12, 13 and 14). Assumes nothing.
 use Prim.Native.Nat.{ℕ, _+_}
-use mathlib.Core.Bool.{Bool, _&&_, _||_}
+use mathlib.Core.Bool.{Bool, cond, _&&_, _||_}
 use mathlib.Core.List.{List}
 use lib.Dec.{eqb, leb}
 use lib.ListN.{getD}
 use Rattle.calendar.specs.Said.{Said, answer, refused}
-use Rattle.meter.specs.Lent.{reads, Writes}
+use Rattle.meter.specs.Lent.{inside, reads, Writes}
 use Rattle.meter.specs.declared.integer.Written.{Written}
 use Rattle.meter.specs.Integer.{beAt, stored}
 use Rattle.meter.specs.Time.{isTime, bitsOf, timeAt}
 use Rattle.record.specs.declared.header.Header.{Header}
 use Rattle.record.specs.declared.header.HeaderRead.{HeaderRead}
 use Rattle.record.specs.declared.header.HeaderRead.the-variants as R
+
+-- "record size 4..7" of the header at byte at, and 0, which is no size, where its first 8 bytes are not all there
+abbrev pub sizeThere : List ℕ → ℕ → ℕ
+sizeThere a at = cond (inside a at 8) (beAt a (at + 4) 4) 0
 
 -- "Classes: 1 MPHR, 2 SPHR, 3 IPR, 4 GEADR, 5 GIADR, 6 VEADR, 7 VIADR, 8 MDR"
 unfoldable pub isClass : ℕ → Bool

@@ -11,7 +11,7 @@ ghost use lib.Dec.{leb};
 ghost use lib.ListN.{length};
 ghost use Rattle.meter.specs.Integer.{beAt, stored};
 ghost use Rattle.meter.specs.Time.{isTime, bitsOf};
-ghost use Rattle.record.specs.Header.{isClass, isGroup, isLead, isHeader, headerReadAt, saidHeader, putHeader, WritesHeader};
+ghost use Rattle.record.specs.Header.{sizeThere, isClass, isGroup, isLead, isHeader, headerReadAt, saidHeader, putHeader, WritesHeader};
 
 pub struct Header {
     pub class: u8,
@@ -47,6 +47,16 @@ pub(crate) fn word_at(bytes: &[u8], at: usize) -> u32
         Unsigned::Value(v) => v as u32,
         Unsigned::Refused(_) => 0,
     }
+}
+
+// The size of the record whose header starts at `at`, or 0 where its first 8 bytes are not all there.
+pub fn size_at(bytes: &[u8], at: usize) -> usize
+    ensures { λ r. ⌜ r ≡ sizeThere (now (bytes .entry)) at ⌝ }
+{
+    if !holds(bytes.len(), at, 8) {
+        return 0;
+    }
+    word_at(bytes, at + 4) as usize
 }
 
 // A class of 002's Table 13: MPHR, SPHR, IPR, GEADR, GIADR, VEADR, VIADR, MDR.

@@ -1,40 +1,163 @@
-//! Safe wrappers of the C boundary (include/warpladle.h): the two judges.
+//! The C boundary (include/warpladle.h) as a Rust user wants it. Undefined is `None`; an answer that is not of the stated form panics.
+pub mod form;
+pub mod raw;
+
+use crate::values::{GroundPoint, Header, Moment, Reading, Record, Refusal, Scaled, Time, Which};
 use crate::{Arrival, Finished};
+use std::cmp::Ordering;
 
-extern "C" {
-    fn wl_arrival(bytes: *const u8, len: usize, answer: *mut u64);
-    fn wl_finished(bytes: *const u8, len: usize, index: *mut u32, room: usize, answer: *mut u64);
+/// No quotient has these bits: a number lent with them shows whether it was written.
+const UNWRITTEN: u64 = 0x7ff8_0bad_0bad_0bad;
+
+fn flat_time(time: Option<Time>) -> (u8, u16, u32) {
+    time.map_or((0, 0, 0), |t| (1, t.day, t.milli))
 }
 
-/// The four numbers as they come. They are filled with ones first, so that a number left unwritten is noticed.
-pub fn raw_arrival(bytes: &[u8]) -> [u64; 4] {
-    let mut answer = [u64::MAX; 4];
-    // SAFETY: pointer and length are of one slice, and the answer has its four places.
-    unsafe { wl_arrival(bytes.as_ptr(), bytes.len(), answer.as_mut_ptr()) };
-    answer
+fn flat_scaled(number: Option<Scaled>) -> (u8, i64, i8) {
+    number.map_or((0, 0, 0), |n| (1, n.integer, n.scale))
 }
 
-pub fn raw_finished(bytes: &[u8], index: &mut [u32]) -> [u64; 4] {
-    let mut answer = [u64::MAX; 4];
-    // SAFETY: as above; the index is lent alone and for its own length.
-    unsafe { wl_finished(bytes.as_ptr(), bytes.len(), index.as_mut_ptr(), index.len(), answer.as_mut_ptr()) };
-    answer
-}
+// ---- the judges
 
-/// 0, end, count, 0; or number, place, 0, 0.
 pub fn arrival(bytes: &[u8]) -> Arrival {
-    match raw_arrival(bytes) {
+    match raw::arrival(bytes) {
         [0, end, count, 0] => Arrival::Waiting { count, end },
-        [number, place, 0, 0] if number != 0 => Arrival::Refused { number, place },
-        other => panic!("wl_arrival answered {other:?}"),
+        [number @ 1..=16, place, 0, 0] => Arrival::Refused { number, place },
+        other => panic!("not an answer of the stated form: {other:?}"),
     }
 }
 
-/// 0, 0, count, 0; or number, place, 0, 0.
+/// The records' starts go to the first places of the index.
 pub fn finished(bytes: &[u8], index: &mut [u32]) -> Finished {
-    match raw_finished(bytes, index) {
-        [0, 0, count, 0] => Finished::Accepted { count },
-        [number, place, 0, 0] if number != 0 => Finished::Refused { number, place },
-        other => panic!("wl_finished answered {other:?}"),
+    match form::one(raw::finished(bytes, index)) {
+        Ok(count) => Finished::Accepted { count },
+        Err(Refusal { number, place }) => Finished::Refused { number, place },
     }
+}
+
+// ---- the queries of a product, arriving or whole
+
+pub fn record(bytes: &[u8], k: usize) -> Result<Record, Refusal> {
+    form::record(raw::record(bytes, k))
+}
+
+pub fn number_field(bytes: &[u8], k: usize) -> Result<Option<i64>, Refusal> {
+    form::number(raw::number_field(bytes, k))
+}
+
+pub fn time_field(bytes: &[u8], k: usize) -> Result<Option<Moment>, Refusal> {
+    form::moment(raw::time_field(bytes, k))
+}
+
+pub fn text_field(bytes: &[u8], k: usize) -> Result<&str, Refusal> {
+    let [.., start, width] = form::said(raw::text_field(bytes, k))?;
+    let text = &bytes[start as usize..][..width as usize];
+    Ok(std::str::from_utf8(text).expect("bytes 32 to 126"))
+}
+
+pub fn field_named(name: &[u8]) -> Result<usize, Refusal> {
+    form::one(raw::field_named(name)).map(|k| k as usize)
+}
+
+/// `None` where either field is undefined.
+pub fn ground_point(bytes: &[u8], which: Which) -> Result<Option<GroundPoint>, Refusal> {
+    let mut point = [f64::from_bits(UNWRITTEN); 2];
+    let answer = form::one(raw::ground_point(bytes, (which == Which::End) as u8, &mut point));
+    let kept = point.map(|n| n.to_bits() == UNWRITTEN);
+    match answer {
+        Ok(1) if kept == [false; 2] => Ok(Some(GroundPoint { latitude: point[0], longitude: point[1] })),
+        Ok(0) if kept == [true; 2] => Ok(None),
+        Err(refusal) if kept == [true; 2] => Err(refusal),
+        other => panic!("wl_ground_point answered {other:?} and left {point:?}"),
+    }
+}
+
+/// The listing at the start of the room, as so many bytes of text.
+pub fn listing(bytes: &[u8], text: &mut [u8]) -> Result<usize, Refusal> {
+    form::written(raw::listing(bytes, text), text.len())
+}
+
+// ---- times
+
+pub fn read_time(bytes: &[u8], at: usize) -> Result<Option<Time>, Refusal> {
+    form::time(raw::read_time(bytes, at))
+}
+
+/// The bytes written; so do all writers.
+pub fn write_time(room: &mut [u8], time: Option<Time>) -> Result<usize, Refusal> {
+    form::written(raw::write_time(room, flat_time(time)), room.len())
+}
+
+pub fn time_order(time: Option<Time>, other: Option<Time>) -> Result<Ordering, Refusal> {
+    match form::one(raw::time_order(flat_time(time), flat_time(other)))? {
+        0 => Ok(Ordering::Less),
+        1 => Ok(Ordering::Equal),
+        2 => Ok(Ordering::Greater),
+        other => panic!("wl_time_order answered {other}"),
+    }
+}
+
+pub fn time_text(room: &mut [u8], time: Option<Time>) -> Result<usize, Refusal> {
+    form::written(raw::time_text(room, flat_time(time)), room.len())
+}
+
+pub fn text_time(bytes: &[u8], at: usize) -> Result<Option<Time>, Refusal> {
+    form::time(raw::text_time(bytes, at))
+}
+
+// ---- scaled numbers
+
+pub fn read_scaled(bytes: &[u8], at: usize, width: usize, signed: bool) -> Result<Option<Scaled>, Refusal> {
+    form::scaled(raw::read_scaled(bytes, at, width, signed as u8))
+}
+
+pub fn write_scaled(room: &mut [u8], width: usize, signed: bool, number: Option<Scaled>) -> Result<usize, Refusal> {
+    form::written(raw::write_scaled(room, width, signed as u8, flat_scaled(number)), room.len())
+}
+
+/// The units of the last decimal.
+pub fn round(number: Option<Scaled>, decimals: i8) -> Result<Option<i64>, Refusal> {
+    form::number(raw::round(flat_scaled(number), decimals))
+}
+
+pub fn reading(number: Option<Scaled>) -> Result<Reading, Refusal> {
+    let mut value = f64::from_bits(UNWRITTEN);
+    let answer = form::one(raw::reading(flat_scaled(number), &mut value));
+    let kept = value.to_bits() == UNWRITTEN;
+    match answer {
+        Ok(0) if kept => Ok(Reading::Missing),
+        Ok(1) if !kept => Ok(Reading::Whole(value)),
+        Ok(2) if !kept => Ok(Reading::Between(value)),
+        Err(refusal) if kept => Err(refusal),
+        other => panic!("wl_reading answered {other:?} and left {value:?}"),
+    }
+}
+
+// ---- record headers and lines of the main header
+
+pub fn read_header(bytes: &[u8], at: usize) -> Result<Header, Refusal> {
+    let record = form::record(raw::read_header(bytes, at))?;
+    assert_eq!(record.start, at as u64, "wl_read_header gives `at` for the start");
+    Ok(record.header)
+}
+
+pub fn write_header(room: &mut [u8], h: &Header) -> Result<usize, Refusal> {
+    let kind = [h.class, h.group, h.subclass, h.version];
+    form::written(raw::write_header(room, kind, h.size, flat_time(h.start), flat_time(h.stop)), room.len())
+}
+
+pub fn write_text_line(room: &mut [u8], k: usize, text: &[u8]) -> Result<usize, Refusal> {
+    form::written(raw::write_text_line(room, k, text), room.len())
+}
+
+pub fn write_number_line(room: &mut [u8], k: usize, value: Option<i64>) -> Result<usize, Refusal> {
+    form::written(raw::write_number_line(room, k, value.map_or((0, 0), |n| (1, n))), room.len())
+}
+
+pub fn write_time_line(room: &mut [u8], k: usize, moment: Option<Moment>) -> Result<usize, Refusal> {
+    let answer = match moment {
+        Some(m) => raw::write_time_line(room, k, 1, m.year, [m.month, m.day, m.hour, m.minute, m.second], m.milli),
+        None => raw::write_time_line(room, k, 0, 0, [0; 5], 0),
+    };
+    form::written(answer, room.len())
 }

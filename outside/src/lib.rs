@@ -1,8 +1,12 @@
-//! An opinion from outside: the judges of 01, read independently, twice.
+//! An opinion from outside: 01 read independently. The judges twice, the rest once.
 pub mod fast;
 pub mod generate;
+pub mod leaves;
 pub mod lines;
 pub mod plain;
+pub mod seen;
+pub mod values;
+pub mod vectors;
 
 #[cfg(feature = "boundary")]
 pub mod boundary;

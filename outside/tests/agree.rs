@@ -1,9 +1,9 @@
 //! Plain and fast agree, on generated cases and with the vectors.
 use outside::generate::{build, damage, prefix, product, shape, Made, Rng};
-use outside::{fast, plain, Arrival, Finished};
+use outside::{fast, plain, seen, vectors, Arrival, Finished};
 
 fn cases() -> usize {
-    std::env::var("CASES").ok().and_then(|n| n.parse().ok()).unwrap_or(200_000)
+    seen::cases(200_000)
 }
 
 const KEPT: u32 = 0xdead_beef;
@@ -103,16 +103,13 @@ fn many_pointers() {
 const SHORT_COUNTED: [usize; 7] = [189, 192, 202, 210, 214, 226, 228];
 
 #[test]
-fn vectors() {
-    let folder = std::env::var("VECTORS").unwrap_or("/work/shared/vectors/judge".into());
-    let all = std::fs::read(format!("{folder}/products.bin")).unwrap();
-    let text = std::fs::read_to_string(format!("{folder}/expected.txt")).unwrap();
+fn every_vector() {
+    let products = vectors::products();
+    let text = std::fs::read_to_string(vectors::file("judge/expected.txt")).unwrap();
     let mut lines = text.lines().peekable();
-    let (mut at, mut n, mut prefixes, mut extra) = (0, 0, 0usize, 0);
-    while at < all.len() {
-        let len = u32::from_be_bytes(all[at..at + 4].try_into().unwrap()) as usize;
-        let bytes = &all[at + 4..at + 4 + len];
-        at += 4 + len;
+    let (mut prefixes, mut extra) = (0usize, 0);
+    for (n, bytes) in products.iter().enumerate() {
+        let len = bytes.len();
         let mut ours = vec![format!("product {n} {len}")];
         let (mut i, mut j) = (vec![KEPT; len / 20 + 1], vec![KEPT; len / 20 + 1]);
         let finished = plain::finished(bytes, &mut i);
@@ -146,9 +143,8 @@ fn vectors() {
             extra += 1;
         }
         assert_eq!(ours, theirs, "product {n}");
-        n += 1;
     }
     assert!(lines.next().is_none());
     assert_eq!(extra, 7);
-    println!("vectors: {n} products, {prefixes} prefixes");
+    println!("vectors: {} products, {prefixes} prefixes", products.len());
 }

@@ -1,44 +1,69 @@
 //! The proved judges behind the C boundary agree with the plain ones, on every generated case and every prefix of the vectors.
 #![cfg(feature = "boundary")]
 use outside::generate::{prefix, product, Rng};
-use outside::{boundary, fast, plain};
+use outside::seen::{cases, Seen};
+use outside::values::Refusal;
+use outside::{boundary, fast, plain, vectors, Arrival, Finished};
 
 const KEPT: u32 = 0xdead_beef;
 
-#[test]
-fn generated() {
-    let cases = std::env::var("CASES").ok().and_then(|n| n.parse().ok()).unwrap_or(200_000);
-    let mut rng = Rng(1);
-    for n in 0..cases {
-        let (p, made) = product(&mut rng, n);
-        let bytes = &p.bytes[..prefix(&mut rng, &p)];
-        let len = bytes.len();
-        let ours = plain::arrival(bytes);
-        assert_eq!(ours, fast::arrival(bytes), "arrival {n} {made:?} at {len}");
-        assert_eq!(ours, boundary::arrival(bytes), "wl_arrival {n} {made:?} at {len}");
-        let count = p.starts.len();
-        for room in [count - 1, count, count + 1, 0] {
-            let (mut i, mut j) = (vec![KEPT; room], vec![KEPT; room]);
-            let ours = plain::finished(bytes, &mut i);
-            assert_eq!(ours, boundary::finished(bytes, &mut j), "wl_finished {n} {made:?} at {len} room {room}");
-            assert_eq!(i, j, "index {n} {made:?} at {len} room {room}");
-        }
-    }
-    println!("boundary: {cases} cases, four rooms each");
+fn note_arrival(seen: &mut Seen, answer: Arrival) {
+    let answer = match answer {
+        Arrival::Refused { number, place } => Err(Refusal { number, place }),
+        Arrival::Waiting { count, .. } => Ok(count),
+    };
+    seen.note(&answer, |count| if *count == 0 { "none whole" } else { "some whole" });
+}
+
+fn note_finished(seen: &mut Seen, answer: Finished) {
+    let answer = match answer {
+        Finished::Refused { number, place } => Err(Refusal { number, place }),
+        Finished::Accepted { count } => Ok(count),
+    };
+    seen.note(&answer, |_| "accepted");
+}
+
+/// Lends both an index of so many places, with one more on each side: one answer, the same places.
+#[track_caller]
+fn same_finished(bytes: &[u8], room: usize) -> Finished {
+    let (mut i, mut j) = (vec![KEPT; room + 2], vec![KEPT; room + 2]);
+    let ours = plain::finished(bytes, &mut i[1..=room]);
+    assert_eq!(ours, boundary::finished(bytes, &mut j[1..=room]), "wl_finished at {} room {room}", bytes.len());
+    assert_eq!(i, j, "index at {} room {room}", bytes.len());
+    ours
 }
 
 #[test]
-fn vectors() {
-    let folder = std::env::var("VECTORS").unwrap_or("/work/shared/vectors/judge".into());
-    let all = std::fs::read(format!("{folder}/products.bin")).unwrap();
-    let (mut at, mut n) = (0, 0);
-    while at < all.len() {
-        let len = u32::from_be_bytes(all[at..at + 4].try_into().unwrap()) as usize;
-        let bytes = &all[at + 4..at + 4 + len];
-        at += 4 + len;
-        for l in 0..=len {
+fn generated() {
+    let mut rng = Rng(1);
+    let (mut arrivals, mut finishes) = (Seen::of("wl_arrival"), Seen::of("wl_finished"));
+    for n in 0..cases(200_000) {
+        let (p, made) = product(&mut rng, n);
+        let bytes = &p.bytes[..prefix(&mut rng, &p)];
+        let (len, before) = (bytes.len(), bytes.to_vec());
+        let ours = plain::arrival(bytes);
+        assert_eq!(ours, fast::arrival(bytes), "arrival {n} {made:?} at {len}");
+        assert_eq!(ours, boundary::arrival(bytes), "wl_arrival {n} {made:?} at {len}");
+        note_arrival(&mut arrivals, ours);
+        let count = p.starts.len();
+        for room in [count - 1, count, count + 1, 0] {
+            note_finished(&mut finishes, same_finished(bytes, room));
+        }
+        assert_eq!(bytes, before);
+    }
+    let refusals: Vec<u64> = (1..=18).collect();
+    arrivals.complete(&["none whole", "some whole"], &refusals[..16]);
+    finishes.complete(&["accepted"], &refusals);
+}
+
+#[test]
+fn every_vector() {
+    for (n, bytes) in vectors::products().iter().enumerate() {
+        for l in 0..=bytes.len() {
             assert_eq!(fast::arrival(&bytes[..l]), boundary::arrival(&bytes[..l]), "product {n} at {l}");
         }
-        n += 1;
+        for room in [0, 1, 2, bytes.len() / 20 + 1] {
+            same_finished(bytes, room);
+        }
     }
 }

@@ -1,0 +1,75 @@
+//! What the leaves, the queries and the boundary take and give.
+
+/// A refusal of 01: "Numbers we answer with".
+#[derive(Clone, Copy, Debug, PartialEq, Eq)]
+pub struct Refusal {
+    pub number: u64,
+    pub place: u64,
+}
+
+/// A short CDS time: the day from 1 January 2000 and the millisecond of that day.
+#[derive(Clone, Copy, Debug, PartialEq, Eq)]
+pub struct Time {
+    pub day: u16,
+    pub milli: u32,
+}
+
+/// A time as the main header writes it, in years 0000 to 9999. A short field has millisecond 0.
+#[derive(Clone, Copy, Debug, PartialEq, Eq)]
+pub struct Moment {
+    pub year: u16,
+    pub month: u8,
+    pub day: u8,
+    pub hour: u8,
+    pub minute: u8,
+    pub second: u8,
+    pub milli: u16,
+}
+
+/// A record header. A time that is `None` is undefined.
+#[derive(Clone, Copy, Debug, PartialEq, Eq)]
+pub struct Header {
+    pub class: u8,
+    pub group: u8,
+    pub subclass: u8,
+    pub version: u8,
+    pub size: u32,
+    pub start: Option<Time>,
+    pub stop: Option<Time>,
+}
+
+/// A record of a product: where it starts, and its header.
+#[derive(Clone, Copy, Debug, PartialEq, Eq)]
+pub struct Record {
+    pub start: u64,
+    pub header: Header,
+}
+
+/// A scaled number: integer / 10^scale.
+#[derive(Clone, Copy, Debug, PartialEq, Eq)]
+pub struct Scaled {
+    pub integer: i64,
+    pub scale: i8,
+}
+
+/// What a meter shows of a scaled number.
+#[derive(Clone, Copy, Debug, PartialEq)]
+pub enum Reading {
+    Missing,
+    Whole(f64),
+    Between(f64),
+}
+
+/// Which of a product's two ground points.
+#[derive(Clone, Copy, Debug, PartialEq, Eq)]
+pub enum Which {
+    Start,
+    End,
+}
+
+/// The point below the satellite, in degrees.
+#[derive(Clone, Copy, Debug, PartialEq)]
+pub struct GroundPoint {
+    pub latitude: f64,
+    pub longitude: f64,
+}

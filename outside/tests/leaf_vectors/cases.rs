@@ -1,0 +1,120 @@
+// Included for each of the modules that are tried.
+use super::*;
+use outside::generate::{build, shape, Rng};
+use outside::lines::STARTS;
+use outside::values::Which;
+
+#[track_caller]
+fn check(case: &Json, key: &str, ours: String) {
+    assert_eq!(ours, case.get(key).unwrap().to_string(), "{key} of {case}");
+}
+
+#[test]
+fn times() {
+    for case in cases("leaves/times.jsonl", 868) {
+        if let Some(bytes) = case.get("bytes").map(Json::hex) {
+            check(&case, "read", said(tried::read_time(&bytes, 0), |t| or_undefined(t, word_time)));
+            if case.get("long").is_some() {
+                check(&case, "long", wrote(21, |room| tried::time_text(room, as_time(&bytes))));
+            }
+        } else if let Some(text) = case.get("text").map(Json::hex) {
+            check(&case, "cds", said(tried::text_time(&text, 0), |t| or_undefined(t, word_time)));
+        } else {
+            let times = case.get("order").unwrap().list();
+            let time = |k: usize| times[k].some().map(|t| Time { day: t.list()[0].number() as u16, milli: t.list()[1].number() as u32 });
+            check(&case, "answer", said(tried::time_order(time(0), time(1)), word_order));
+        }
+    }
+}
+
+#[test]
+fn scaled() {
+    let mut beyond = 0;
+    for case in cases("leaves/scaled.jsonl", 8120) {
+        let number = |key: &str| case.get(key).unwrap().number();
+        let width = || number("width") as usize;
+        let signed = || case.get("signed").unwrap().to_string() == "true";
+        let op = case.get("op").unwrap().text();
+        if op == "read" {
+            let bytes = case.get("bytes").unwrap().hex();
+            check(&case, "answer", said(tried::read_scaled(&bytes, 0, width(), signed()), |n| or_undefined(n, word_scaled)));
+            continue;
+        }
+        let integer = case.get("i").unwrap().some().map(Json::integer);
+        if integer == Some(None) {
+            // No i64 holds it, so it cannot be handed in (F4).
+            check(&case, "answer", "[refused,21,0]".into());
+            beyond += 1;
+            continue;
+        }
+        let n = integer.map(|i| Scaled { integer: i.unwrap(), scale: number("s") as i8 });
+        let ours = match op {
+            "write" => wrote(case.get("room").map_or(12, |r| r.number() as usize), |room| tried::write_scaled(room, width(), signed(), n)),
+            "round" => said(tried::round(n, number("d") as i8), |m| or_undefined(m, |m| format!("[rounded,{m}]"))),
+            "reading" => said(tried::reading(n), word_reading),
+            _ => panic!("{case}"),
+        };
+        check(&case, "answer", ours);
+    }
+    assert_eq!(beyond, 63);
+}
+
+#[test]
+fn headers() {
+    for case in cases("leaves/headers.jsonl", 303) {
+        let bytes = case.get("bytes").unwrap().hex();
+        check(&case, "read", said(tried::read_header(&bytes, 0), word_header));
+        if case.get("write").is_some() {
+            check(&case, "write", wrote(23, |room| tried::write_header(room, &as_header(&bytes))));
+            check(&case, "write_room19", wrote(19, |room| tried::write_header(room, &as_header(&bytes))));
+        }
+    }
+}
+
+#[test]
+fn lines() {
+    let mut beyond = 0;
+    for case in cases("leaves/lines.jsonl", 1424) {
+        let k = case.get("field").unwrap().number() as usize;
+        let room = case.get("room").map_or(120, |r| r.number() as usize);
+        let value = case.get("value").unwrap();
+        let ours = match case.get("op").unwrap().text() {
+            "text" => wrote(room, |room| tried::write_text_line(room, k, &value.hex())),
+            "time" => wrote(room, |room| tried::write_time_line(room, k, value.some().map(|m| as_moment(m.list())))),
+            "number" => match value.some().map(Json::integer) {
+                // No i64 holds it (F4).
+                Some(None) => {
+                    beyond += 1;
+                    "[refused,22,0]".into()
+                }
+                n => wrote(room, |room| tried::write_number_line(room, k, n.flatten())),
+            },
+            _ => panic!("{case}"),
+        };
+        check(&case, "answer", ours);
+    }
+    assert_eq!(beyond, 20);
+}
+
+#[test]
+fn names() {
+    for case in cases("leaves/names.jsonl", 187) {
+        let name = case.get("name").unwrap().hex();
+        check(&case, "answer", said(tried::field_named(&name), |k| format!("[field,{k}]")));
+    }
+}
+
+#[test]
+fn points() {
+    let mut rng = Rng(5);
+    for case in cases("leaves/points.jsonl", 27) {
+        for (latitude, which) in [(49, Which::Start), (51, Which::End)] {
+            let shape = shape(&mut rng);
+            let mut product = build(&mut rng, &shape).bytes;
+            for (k, key) in [(latitude, "lat"), (latitude + 1, "lon")] {
+                product[STARTS[k] + 32..][..11].copy_from_slice(&case.get(key).unwrap().hex());
+            }
+            check(&case, "answer", said(tried::ground_point(&product, which), word_point));
+        }
+    }
+}

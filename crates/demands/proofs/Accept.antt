@@ -10,7 +10,7 @@ use Rattle.mphr.specs.Table.{declared}
 use Rattle.mphr.specs.Table as M
 use Rattle.mphr.proofs.Export.{clean-whole, sized}
 use Rattle.judge.specs.Table.{Site, first, Sound, Leads, here, Wrong, rowAt, at}
-use Rattle.judge.specs.Finish.{Complete, Covered}
+use Rattle.judge.specs.Extent.{Complete, Covered}
 use Rattle.judge.proofs.WayLaws.{snoc}
 use Rattle.judge.proofs.Covering.{clean-main, complete-fine, sound-here}
 

@@ -23,10 +23,13 @@ use Rattle.mphr.specs.Table.{headed, timed, declared, total}
 use Rattle.mphr.specs.Table as M
 use Rattle.mphr.proofs.Export.{fine-framed, fine-valued, sized, summed}
 use Rattle.judge.specs.Table.{Site, first, classAt, kindAt, sizeAt, offsetAt, aimAt, Sound, oneMore, next, Leads, here, on, Target, Pointer, Wrong, part-left, unknown, misplaced, bad-size, bad-times, surplus, bad-target, points-inside, points-at-other, too-few, Fault, main, at, too-long, Clean}
-use Rattle.judge.specs.Finish.{starts, put, Complete, Covered, Refuses, faulty, short, no-room, FinishedIs}
+use Rattle.judge.specs.declared.arrival.Extent.{Extent}
+use Rattle.judge.specs.declared.arrival.Extent.the-variants as X
+use Rattle.judge.specs.Extent.{ExtentIs, Complete, Covered}
+use Rattle.finish.specs.Finish.{starts, put, Refuses, faulty, short, no-room, FinishedIs}
 use Rattle.demands.specs.Product.{class, kind, size, targetKind, offset, MainHeader, IsRecord, Aims, Records, none, more, ofClass, Meets}
-use Rattle.judge.specs.declared.finished.Finished.{Finished}
-use Rattle.judge.specs.declared.finished.Finished.the-variants.{Accepted, Refused}
+use Rattle.finish.specs.declared.Finished.{Finished}
+use Rattle.finish.specs.declared.Finished.the-variants.{Accepted, Refused}
 use Rattle.judge.proofs.WayLaws.{leads-le, snoc, trans, linear, holds, target?}
 use Rattle.demands.proofs.Prefix.{unique-given}
 use Rattle.mphr.proofs.Prefix.{same-refusal}
@@ -425,3 +428,14 @@ unique-finished a ix (Refused r) (Refused s) x y (f, e) (g, d) = let u = go f g 
     go (no-room k v l) (faulty g) = absurd (k .clean (g .fault) (g .seen))
     go (no-room k v l) (short c s) = absurd (⊎-elim (λ z. omega (arith, k .header)) (λ z. omega (arith, k .come)) s)
     go (no-room k v l) (no-room k′ v′ l′) = (refl, omega (arith, v .counted, v′ .counted, same-way (v .way) (v′ .way) (v .ends ∙ sym (v′ .ends)) .1))
+
+pub unique-extent : (a : List ℕ) (r s : Extent) → ExtentIs a r → ExtentIs a s → r ≡ s
+unique-extent a X.Part X.Part f g = refl
+unique-extent a X.Part (X.Entire c) f (k, v) = absurd (⊎-elim (λ z. omega (arith, k .header)) (λ z. omega (arith, k .come)) (f .1))
+unique-extent a X.Part (X.Refused s) f g = absurd (f .0 (g .fault) (g .seen))
+unique-extent a (X.Entire c) X.Part (k, v) g = absurd (⊎-elim (λ z. omega (arith, k .header)) (λ z. omega (arith, k .come)) (g .1))
+unique-extent a (X.Entire c) (X.Entire d) (k, v) (l, w) = ap X.Entire (omega (arith, v .counted, w .counted, same-way (v .way) (w .way) (v .ends ∙ sym (w .ends)) .1))
+unique-extent a (X.Entire c) (X.Refused s) (k, v) g = absurd (k .clean (g .fault) (g .seen))
+unique-extent a (X.Refused r) X.Part f g = absurd (g .0 (f .fault) (f .seen))
+unique-extent a (X.Refused r) (X.Entire d) f (l, w) = absurd (l .clean (f .fault) (f .seen))
+unique-extent a (X.Refused r) (X.Refused s) f g = let u = unique-given f g in ap X.Refused (same-refusal r s (u .0) (u .1))

@@ -23,9 +23,9 @@ use Rattle.record.specs.Follow.{firstAfter, mayFollow}
 use Rattle.record.specs.Times.{timedAt}
 use Rattle.mphr.specs.Layout.{fields, widths, kinds, rows, names, widthOf, kindOf, lineStart, bytesOf}
 use Rattle.mphr.specs.Table.{headed, timed, named, framed, valued, declared, total, sum, Sums}
-use Rattle.judge.specs.Finish.{put, FinishedIs}
-use Rattle.judge.specs.declared.finished.Finished.{Finished}
-use Rattle.judge.specs.declared.finished.Finished.the-variants.{Accepted}
+use Rattle.finish.specs.Finish.{put, FinishedIs}
+use Rattle.finish.specs.declared.Finished.{Finished}
+use Rattle.finish.specs.declared.Finished.the-variants.{Accepted}
 use Rattle.demands.proofs.Accepted.{meets-accepted}
 use Rattle.demands.specs.Product.{IsRecord, none, more, ofClass, Meets}
 

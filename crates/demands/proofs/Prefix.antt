@@ -20,11 +20,11 @@ use Rattle.mphr.proofs.Prefix.{fine-on}
 use Rattle.mphr.proofs.Prefix as M
 use Rattle.mphr.proofs.Export.{sized}
 use Rattle.judge.specs.Table.{Site, site, first, classAt, kindAt, sizeAt, aimClass, aimAt, offsetAt, Sound, Leads, here, on, Target, Pointer, Wrong, part-left, unknown, misplaced, bad-size, bad-times, surplus, bad-target, points-inside, points-at-other, too-few, rowAt, Fault, main, at, too-long, row, number, place, shown, Clean, Given, Whole, Open, Judged}
-use Rattle.judge.specs.Finish.{Refuses, faulty, short, no-room, FinishedIs, refusedWith}
+use Rattle.finish.specs.Finish.{Refuses, faulty, short, no-room, FinishedIs, refusedWith}
 use Rattle.judge.specs.declared.arrival.Arrival.{Arrival}
 use Rattle.judge.specs.declared.arrival.Arrival.the-variants.{Waiting, Refused}
-use Rattle.judge.specs.declared.finished.Finished.{Finished}
-use Rattle.judge.specs.declared.finished.Finished.the-variants as F
+use Rattle.finish.specs.declared.Finished.{Finished}
+use Rattle.finish.specs.declared.Finished.the-variants as F
 use Rattle.judge.proofs.RankLaws.{class-most}
 use Rattle.judge.proofs.WayLaws.{leads-le, counts, linear, ends-by, facts}
 

@@ -6,7 +6,7 @@ use mathlib.Core.Logic.{_⊎_, inl, inr, ⊎-elim}
 use mathlib.Core.List.{List, [], _∷_}
 use lib.ListN.{length, getD, set, length-set}
 use lib.Seq.{getD-set-same, getD-set-other}
-use Rattle.judge.specs.Finish.{put}
+use Rattle.finish.specs.Finish.{put}
 
 pub put-length : (k : ℕ) (l ix : List ℕ) → length (put k l ix) ≡ length ix
 put-length k [] ix = refl

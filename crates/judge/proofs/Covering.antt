@@ -12,9 +12,8 @@ use Rattle.mphr.specs.Table as M
 use Rattle.mphr.proofs.Export.{clean-fine}
 use Rattle.judge.specs.Table.{Site, site, first, Sound, Leads, part-left, bad-size, main, at, too-long, Clean, Whole, Open}
 use Rattle.judge.specs.Turning.{Begun}
-use Rattle.judge.specs.Finish.{Complete, Covered, Refuses, FinishedIs, refusedWith}
-use Rattle.judge.specs.declared.finished.Finished.{Finished}
-use Rattle.judge.proofs.WayLaws.{holds, sound?}
+use Rattle.judge.specs.Extent.{Complete, Covered}
+use Rattle.judge.proofs.WayLaws.{counts, holds, sound?}
 
 -- an arrival that shows no fault shows none of the main header
 pub clean-main : {a : List ℕ} → Clean a → M.Clean a
@@ -48,6 +47,9 @@ covered {a} {c} {e} o k = ⊎-elim (λ z. absurd (omega (arith, k .header, z .0)
       counted = refl;
     }
 
--- a refusal that is made is the one that is right
-pub refused-with : (a ix : List ℕ) {n p : ℕ} {r : Finished} → r ≡ refusedWith n p → Refuses a (length ix) n p → FinishedIs a ix r ix
-refused-with a ix e q = rw e (q, refl)
+-- no record is whole just where the main header has not all come
+pub none-yet : {a : List ℕ} {c e : ℕ} → Open a c e → c ≡ 0 → length a < 3307
+none-yet o z = ⊎-elim (λ s. s .0) (λ w. absurd (omega (arith, z, counts (w .1 .way)))) (o .whole)
+
+pub some-come : {a : List ℕ} {c e : ℕ} → Open a c e → (c ≡ 0 → ⊥) → 3307 ≤ length a
+some-come o n = ⊎-elim (λ s. absurd (n (s .1))) (λ w. w .0) (o .whole)

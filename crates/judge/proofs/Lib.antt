@@ -6,4 +6,3 @@ pub mod JudgeLaws
 pub mod TurnLaws
 pub mod CountLaws
 pub mod Covering
-pub mod Filling

@@ -1,4 +1,4 @@
 pub mod Table
 pub mod Step
 pub mod Turning
-pub mod Finish
+pub mod Extent

@@ -20,10 +20,18 @@ ghost use Rattle.meter.specs.General.{numberOf};
 ghost use Rattle.text.specs.Field.{isNumber};
 ghost use Rattle.mphr.specs.Table.{declared, total, Fine};
 ghost use Rattle.judge.specs.Table.{site, Judged};
+ghost use Rattle.judge.specs.Extent.{ExtentIs};
 ghost use Rattle.judge.specs.Turning.{Totals, Ready, TurnedIs, refusedAt, Begun, CountAt, Over, FewerIs};
 
 pub enum Arrival {
     Waiting { count: usize, end: usize },
+    Refused(Refusal),
+}
+
+// Whether all of a product has come, with the count of its records.
+pub enum Extent {
+    Part,
+    Entire { count: usize },
     Refused(Refusal),
 }
 
@@ -52,7 +60,7 @@ fn count_at(s: &[u8], at: usize, width: usize) -> usize
 }
 
 // D, the size that the product declares.
-pub(crate) fn size_of(s: &[u8]) -> usize
+fn size_of(s: &[u8]) -> usize
     requires { ⌜ Begun (now s) ⌝ }
     ensures { λ r. ⌜ (r ≡ declared (now (s .entry))) × (3307 ≤ r) × (r ≤ 2147483647) ⌝ }
 {
@@ -197,6 +205,24 @@ pub fn judge_arrival(s: &[u8]) -> Arrival
                 return Arrival::Waiting { count: 0, end: 0 };
             }
             walk(s)
+        }
+    }
+}
+
+// The same refusals; else whether each byte has come of the main header and of the size that it declares.
+pub fn judge_extent(s: &[u8]) -> Extent
+    ensures { λ r. ⌜ ExtentIs (now (s .entry)) r ⌝ }
+{
+    match judge_arrival(s) {
+        Arrival::Refused(r) => Extent::Refused(r),
+        Arrival::Waiting { count, end: _ } => {
+            if count == 0 {
+                return Extent::Part;
+            }
+            if s.len() < size_of(s) {
+                return Extent::Part;
+            }
+            Extent::Entire { count }
         }
     }
 }

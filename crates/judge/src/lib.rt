@@ -2,6 +2,5 @@
 pub use calendar::Refusal;
 
 pub mod arrival;
-pub mod finished;
 mod header;
 mod pointers;

@@ -1,8 +1,8 @@
 // How answers are printed: words, numbers, refusals, times and floats. Each number stands after a space; whoever prints the last of a
 // line ends the line.
 use calendar::Refusal;
+use finish::Finished;
 use judge::arrival::Arrival;
-use judge::finished::Finished;
 use libc::STDOUT_FILENO;
 use meter::general::General;
 use meter::general::Moment;

@@ -3,10 +3,10 @@
 use crate::print;
 use crate::print::say;
 use calendar::Refusal;
+use finish::Finished;
+use finish::judge_finished;
 use judge::arrival::Arrival;
 use judge::arrival::judge_arrival;
-use judge::finished::Finished;
-use judge::finished::judge_finished;
 
 // How many places the largest index has, and what they hold before the judge is asked: no product has a record there.
 const PLACES: usize = 64;

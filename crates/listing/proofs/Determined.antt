@@ -9,7 +9,8 @@ use lib.ListN.{length, drop}
 use Rattle.calendar.specs.declared.Refusal.{Refusal}
 use Rattle.mphr.specs.Layout.{bytesOf}
 use Rattle.mphr.proofs.Prefix.{same-refusal}
-use Rattle.judge.specs.Finish.{starts, Complete, Covered}
+use Rattle.judge.specs.Extent.{Complete, Covered}
+use Rattle.finish.specs.Finish.{starts}
 use Rattle.demands.proofs.Prefix.{unique-given}
 use Rattle.demands.proofs.Accepted.{covers, complete-is-product}
 use Rattle.listing.specs.Decimal.{column}

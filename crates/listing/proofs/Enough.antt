@@ -8,11 +8,14 @@ use lib.ListN.{length, getD, length-append}
 use mathlib.Core.Bool.{_&&_}
 use borrow.Author.Tests.{eqb-true}
 use lib.Dec.{eqb}
-use Rattle.judge.specs.Table.{Site, sizeAt, Leads, here, on}
+use Rattle.judge.specs.Table.{Site, sizeAt, Leads, here, on, Fault, main, at, too-long, number}
+use Rattle.judge.proofs.WayLaws.{facts}
+use Rattle.mphr.specs.Table as M
 use Rattle.meter.specs.Integer.{beAt}
 use Rattle.meter.proofs.GeneralRuns.{and-true}
 use Rattle.mphr.specs.Table.{headed, declared}
-use Rattle.judge.specs.Finish.{starts, Complete, Covered}
+use Rattle.judge.specs.Extent.{Complete, Covered}
+use Rattle.finish.specs.Finish.{starts}
 use Rattle.judge.proofs.Covering.{whole-come}
 use Rattle.demands.proofs.Accepted.{complete-is-product}
 use Rattle.listing.specs.Decimal.{column}
@@ -22,7 +25,6 @@ use Rattle.listing.proofs.ColumnLaws.{column-length}
 use Rattle.listing.proofs.WalkLaws.{line-length, listing-parts}
 use Rattle.calendar.specs.declared.Refusal.{Refusal}
 use Rattle.listing.proofs.LineLaws.{line-bytes}
-use Rattle.listing.proofs.ProductLaws.{number-most}
 
 -- the list has bytes
 abbrev pub Bytes : List ℕ → Type 0
@@ -78,6 +80,20 @@ enough {a} {c} b h k v =
       v .ends,
       d,
     )
+
+-- no row of the table has the number 18
+main-number : {a : List ℕ} (g : M.Fault a) → M.number g ≤ 16
+main-number (M.bad-header _) = omega arith
+main-number (M.bad-line k _ (M.bad-frame _)) = omega arith
+main-number (M.bad-line k _ (M.bad-value _)) = omega arith
+main-number (M.bad-size _ _) = omega arith
+main-number (M.bad-totals _ _) = omega arith
+main-number (M.bad-times _) = omega arith
+
+number-most : {a : List ℕ} (f : Fault a) → number f ≤ 16
+number-most (main g) = main-number g
+number-most (at _ x _ w) = omega (arith, facts w .most)
+number-most (too-long _) = omega arith
 
 -- with such a room nothing is refused for want of room
 pub never-18 : {a room : List ℕ} {n p : ℕ} → Bytes a → 131072 ≤ length room → NoList a room n p → n ≡ 18 → ⊥

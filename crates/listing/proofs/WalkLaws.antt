@@ -8,7 +8,8 @@ use lib.ListN.{length, getD, length-append}
 use lib.Seq.{sets}
 use Rattle.mphr.specs.Layout.{bytesOf}
 use Rattle.judge.specs.Table.{Site, site, first, classAt, sizeAt, oneMore, Leads, here, on, next}
-use Rattle.judge.specs.Finish.{starts, Complete, Covered}
+use Rattle.judge.specs.Extent.{Complete, Covered}
+use Rattle.finish.specs.Finish.{starts}
 use Rattle.judge.proofs.WayLaws.{leads-le, goes}
 use Rattle.judge.proofs.Covering.{whole-come}
 use Rattle.listing.specs.Decimal.{decimal, column, Puts}

@@ -3,16 +3,15 @@
 -- bytes"; row 18, "lent room too small", with the bytes needed). Assumes nothing.
 use Prim.Native.Nat.{ℕ, _+_, _≤_, _<_}
 use mathlib.Core.Path.{_≡_}
-use mathlib.Core.Logic.{_⊎_}
 use mathlib.Core.List.{List, [], _∷_, _++_}
 use lib.ListN.{length, getD, drop}
 use lib.Seq.{sets}
 use Rattle.calendar.specs.declared.Refusal.{Refusal}
 use Rattle.calendar.specs.Said.{refusing}
 use Rattle.mphr.specs.Layout.{bytesOf}
-use Rattle.mphr.specs.Table.{declared}
 use Rattle.judge.specs.Table.{sizeAt, Clean, Given}
-use Rattle.judge.specs.Finish.{starts, Complete, Covered}
+use Rattle.judge.specs.Extent.{Short, Complete, Covered}
+use Rattle.finish.specs.Finish.{starts}
 use Rattle.listing.specs.Decimal.{column}
 use Rattle.listing.specs.declared.Listed.{Listed}
 use Rattle.listing.specs.declared.Listed.the-variants as L
@@ -61,7 +60,7 @@ pub record Lists (a room : List ℕ) (n : ℕ) (exit : List ℕ) : Type 0 where
 pub data NoList (a room : List ℕ) : ℕ → ℕ → Type 0 where
   too-large : 65536 < length a → NoList a room 23 65536
   faulty : {n p : ℕ} → length a ≤ 65536 → Given a n p → NoList a room n p
-  short : length a ≤ 65536 → Clean a → (length a < 3307) ⊎ (length a < declared a) → NoList a room 17 (length a)
+  short : length a ≤ 65536 → Clean a → Short a → NoList a room 17 (length a)
   no-room : {c : ℕ} → length a ≤ 65536 → Complete a → (v : Covered a c) → length room < length (listing v) → NoList a room 18 (length (listing v))
 
 -- what is right to say of a product, and to write; a refusal keeps all of the room

@@ -1,7 +1,7 @@
 // The listing of a product's records as text, and the line of a refusal.
 use calendar::Refusal;
-use judge::finished::Finished;
-use judge::finished::judge_finished;
+use judge::arrival::Extent;
+use judge::arrival::judge_extent;
 use meter::integer::Unsigned;
 ghost use mathlib.Core.Path.{_≡_};
 ghost use mathlib.Core.Bool.{true};
@@ -145,23 +145,17 @@ fn list_complete(s: &[u8], count: usize, room: &mut [u8]) -> Listed
     Listed::Bytes(n)
 }
 
-// The listing of a product at the start of the room. The finished judge, lent an index without places, says 18 and the count of just the
-// products that are complete, so no index limits how many records are listed.
+// The listing of a product at the start of the room.
 pub fn list_product(bytes: &[u8], room: &mut [u8]) -> Listed
     ensures { λ r. ⌜ ListedIs (now (bytes .entry)) (now (room .entry)) r (now (room .exit)) ⌝ }
 {
     if MOST < bytes.len() {
         return refused(23, MOST);
     }
-    let mut none = [0u32; 0];
-    match judge_finished(bytes, &mut none) {
-        Finished::Accepted { count } => refused(18, count),
-        Finished::Refused(r) => {
-            if r.number != 18 {
-                return Listed::Refused(r);
-            }
-            list_complete(bytes, r.place, room)
-        }
+    match judge_extent(bytes) {
+        Extent::Refused(r) => Listed::Refused(r),
+        Extent::Part => refused(17, bytes.len()),
+        Extent::Entire { count } => list_complete(bytes, count, room),
     }
 }
 

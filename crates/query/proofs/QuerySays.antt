@@ -8,9 +8,10 @@ use mathlib.Core.List.{List, _∷_}
 use lib.ListN.{length, getD}
 use Rattle.record.specs.Header.{headerAt}
 use Rattle.judge.specs.Table.{Site, Leads, here, on, Open}
-use Rattle.judge.specs.Finish.{starts, Complete, Covered, Filled, FinishedIs}
+use Rattle.judge.specs.Extent.{Complete, Covered}
+use Rattle.finish.specs.Finish.{starts, Filled, FinishedIs}
 use Rattle.query.specs.Query.{StartOf, RecordIs}
-use Rattle.judge.specs.declared.finished.Finished.the-variants.{Accepted}
+use Rattle.finish.specs.declared.Finished.the-variants.{Accepted}
 use Rattle.query.specs.declared.RecordAnswer.{RecordAnswer}
 use Rattle.query.specs.declared.RecordAnswer.the-variants.{Record}
 use Rattle.judge.proofs.Covering.{whole-come}

@@ -6,8 +6,8 @@ use mathlib.Core.Bool.{Bool, true, false}
 use mathlib.Core.List.{List}
 use lib.IntN.{ℤ}
 use lib.Ieee.{Float}
-use Rattle.judge.specs.Finish.{FinishedIs}
-use Rattle.judge.specs.declared.finished.Finished.{Finished}
+use Rattle.finish.specs.Finish.{FinishedIs}
+use Rattle.finish.specs.declared.Finished.{Finished}
 use Rattle.query.specs.Query.{TimeIs, PointIs}
 use Rattle.query.specs.declared.PointAnswer.{PointAnswer}
 use Rattle.query.specs.declared.TimeAnswer.{TimeAnswer}

@@ -3,11 +3,11 @@
 use Prim.Native.Nat.{ℕ}
 use mathlib.Core.List.{List, [], _∷_}
 use Rattle.judge.specs.Table.{Judged}
-use Rattle.judge.specs.Finish.{FinishedIs}
+use Rattle.finish.specs.Finish.{FinishedIs}
 use Rattle.judge.specs.declared.arrival.Arrival.{Arrival}
 use Rattle.judge.specs.declared.arrival.Arrival.the-variants as A
-use Rattle.judge.specs.declared.finished.Finished.{Finished}
-use Rattle.judge.specs.declared.finished.Finished.the-variants as F
+use Rattle.finish.specs.declared.Finished.{Finished}
+use Rattle.finish.specs.declared.Finished.the-variants as F
 use Rattle.query.specs.Query.{RecordIs}
 use Rattle.query.specs.declared.RecordAnswer.{RecordAnswer}
 use Rattle.query.specs.declared.RecordAnswer.the-variants as R

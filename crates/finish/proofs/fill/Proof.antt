@@ -1,12 +1,12 @@
--- `judge::finished::fill` meets its contract: what is in the index, with the starts of the records that are left, is what it shall hold.
+-- `finish::fill` meets its contract: what is in the index, with the starts of the records that are left, is what it shall hold.
 -- Assumes nothing.
 use Prim.Native.Nat.{_-_}
 use native.Mathlib.Omega.{arith}
 use lib.ListN.{length, length-set}
-use Rattle.judge.specs.Finish.{Filling}
-use Rattle.judge.proofs.Filling.{filling-first, some-room, filling-last}
-use Rattle.judge.proofs.finished.fill.Statement.{statement}
-use Rattle.judge.proofs.finished.fill.Tie as tie
+use Rattle.finish.specs.Finish.{Filling}
+use Rattle.finish.proofs.Filling.{filling-first, some-room, filling-last}
+use Rattle.finish.proofs.fill.Statement.{statement}
+use Rattle.finish.proofs.fill.Tie as tie
 
 abbrev Inv-loop : tie.InvT-loop
 Inv-loop s index₀ k₀ at₀ index k at = Filling s index₀ index k at

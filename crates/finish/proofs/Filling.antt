@@ -4,10 +4,13 @@ use native.Mathlib.Decide.{ℕ-discrete}
 use native.Mathlib.Omega.{arith}
 use mathlib.Core.Path.{_≡_, refl, sym, ap, _∙_}
 use mathlib.Core.List.{List}
+use borrow.Author.Tests.{le-leb}
 use lib.ListN.{length, set, length-set}
+use Rattle.record.specs.Header.{sizeThere}
 use Rattle.judge.specs.Table.{Site, site, first, classAt, sizeAt, oneMore, Leads, here, on, next}
-use Rattle.judge.specs.Finish.{starts, put, Filled, Fillable, Filling}
+use Rattle.finish.specs.Finish.{starts, put, Refuses, Filled, FinishedIs, refusedWith, Fillable, Filling}
+use Rattle.finish.specs.declared.Finished.{Finished}
 use Rattle.judge.proofs.WayLaws.{leads-le, counts, goes}
 
 pub filling-first : {a ix : List ℕ} → Fillable a ix → Filling a (set ix 0 0) (set ix 0 0) 1 3307
 filling-first f = record {
@@ -43,6 +46,10 @@ within f h =
       least = e .0 .least;
       most = omega (arith, e .0 .most, q .come);
     }
+
+-- the size that is read there
+pub there : {a ix : List ℕ} {k i : ℕ} → Within a ix k i → sizeThere a i ≡ sizeAt a i
+there {a} {i = i} w = rw (le-leb (i + 8) (length a) (omega (arith, w .least, w .most))) refl
 
 step : {a : List ℕ} (ix : List ℕ) {x y : Site} (l : Leads a x y) → x .at < y .at → (m : Leads a (next a x) y) × (put (x .count) (starts l) ix ≡ put (x .count + 1) (starts m) (set ix (x .count) (x .at)))
 step ix here h = absurd (omega arith)
@@ -90,6 +97,10 @@ moved-on {a} {i = i} {e = e} v n = go (ℕ-discrete e i)
     go : Dec (e ≡ i) → i < e
     go (yes q) = absurd (n (ap (sizeAt a) q ∙ sym (v .begun q)))
     go (no q) = omega (arith, v .from, q)
+
+-- a refusal that is made is the one that is right
+pub refused-with : (a ix : List ℕ) {n p : ℕ} {r : Finished} → r ≡ refusedWith n p → Refuses a (length ix) n p → FinishedIs a ix r ix
+refused-with a ix e q = rw e (q, refl)
 
 -- the measure falls
 pub less : {n i z : ℕ} → i < n → 1 ≤ z → n - (i + z) < n - i

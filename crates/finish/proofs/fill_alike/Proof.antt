@@ -1,15 +1,17 @@
--- `judge::finished::fill_alike` meets its contract: after each store the index is as far as `Filling` says, wherever it was so at the start; and
+-- `finish::fill_alike` meets its contract: after each store the index is as far as `Filling` says, wherever it was so at the start; and
 -- the first record has the size that is looked for, so that the stretch goes on. Assumes nothing.
 use Prim.Native.Nat.{ℕ, _-_}
 use native.Mathlib.Omega.{arith}
 use denote.Ref.{now}
 use mathlib.Core.Path.{_≡_, refl, sym, _∙_}
 use mathlib.Core.List.{List}
+use borrow.Author.Needs.{needs}
 use lib.ListN.{length, length-set}
-use Rattle.judge.specs.Finish.{Filling}
-use Rattle.judge.proofs.Filling.{Within, within, filling-next, Alike, moved-on, less}
-use Rattle.judge.proofs.finished.fill_alike.Statement.{statement}
-use Rattle.judge.proofs.finished.fill_alike.Tie as tie
+use Rattle.judge.specs.Table.{sizeAt}
+use Rattle.finish.specs.Finish.{Filling, Fillable}
+use Rattle.finish.proofs.Filling.{Within, within, there, filling-next, Alike, moved-on, less}
+use Rattle.finish.proofs.fill_alike.Statement.{statement}
+use Rattle.finish.proofs.fill_alike.Tie as tie
 
 abbrev Inv-loop : tie.InvT-loop
 Inv-loop s index₀ k at size count₀ end₀ index count end = Alike s index₀ k at size index count end
@@ -24,26 +26,27 @@ St c = c .before .before .before .before
 known : (c : tie.At-loop Inv-loop μ-loop) → Filling (now (St c .args .s)) (St c .pre .ix₀) (c .loop .index) (c .loop .count) (c .loop .end)
 known c = c .loop .inv .kept (St c .pre .ix₀) (St c .pre .filling)
 
+asked : (c : tie.At-loop Inv-loop μ-loop) → Fillable (now (St c .args .s)) (St c .pre .ix₀)
+asked c = known c .asked
+
 in-turn : (c : tie.In-loop Inv-loop μ-loop) → Within (now (St (c .before) .args .s)) (c .before .loop .index) (c .before .loop .count) (c .before .loop .end)
 in-turn c = within (known (c .before)) (c .loop-test .taken)
 
 first : (c : tie.After-slice-known Inv-loop μ-loop) → Within (now (c .before .before .args .s)) (now (c .before .before .args .index)) (c .before .before .args .k) (c .before .before .args .at)
 first c = let s = c .before .before in within (s .pre .filling) (s .pre .inside)
 
-add-word : tie.Need-add-word Inv-loop μ-loop
-add-word c = omega (arith, first c .small)
+-- the size that is read in a turn
+here : (c : tie.After-size-at2 Inv-loop μ-loop) → c .size-at2 .result ≡ sizeAt (now (St (c .before .before) .args .s)) (c .before .before .loop .end)
+here c = c .size-at2 .ensures ∙ there (in-turn (c .before))
 
-word-requires : tie.Need-word-requires Inv-loop μ-loop
-word-requires c κs = let w = first c in omega (arith, w .least, w .most)
+size-at-requires : tie.Need-size-at-requires Inv-loop μ-loop
+size-at-requires c κs = search needs
 
 loop-holds : tie.Need-loop-holds Inv-loop μ-loop
-loop-holds c = record { kept = λ ix₀ f. f; from = omega arith; begun = λ _. c .word .ensures .0 }
+loop-holds c = record { kept = λ ix₀ f. f; from = omega arith; begun = λ _. c .size-at .ensures ∙ there (first (c .before)) }
 
-add-word-2 : tie.Need-add-word-2 Inv-loop μ-loop
-add-word-2 c = omega (arith, in-turn c .small)
-
-word-requires-2 : tie.Need-word-requires-2 Inv-loop μ-loop
-word-requires-2 c κs = let w = in-turn c in omega (arith, w .least, w .most)
+size-at-requires-2 : tie.Need-size-at-requires-2 Inv-loop μ-loop
+size-at-requires-2 c κs = search needs
 
 same-length : tie.Need-same-length Inv-loop μ-loop
 same-length c = omega (arith, known (c .before .before .before) .size, St (c .before .before .before) .pre .filling .size)
@@ -51,7 +54,7 @@ same-length c = omega (arith, known (c .before .before .before) .size, St (c .be
 returns : tie.Need-returns Inv-loop μ-loop
 returns c =
     let l = c .before .before .before in
-    record { further = moved-on (l .loop .inv) (λ e. c .if1 .taken (c .before .word2 .ensures .0 ∙ e)); filling = l .loop .inv .kept }
+    record { further = moved-on (l .loop .inv) (λ e. c .if1 .taken (here (c .before) ∙ e)); filling = l .loop .inv .kept }
 
 cast-index : tie.Need-cast-index Inv-loop μ-loop
 cast-index c = omega (arith, in-turn (c .before .before) .small)
@@ -68,18 +71,18 @@ add-count c = let w = in-turn (c .before .before) in omega (arith, w .low, w .sm
 add-end : tie.Need-add-end Inv-loop μ-loop
 add-end c =
     let i = c .before .before in
-    omega (arith, in-turn i .small, i .before .before .word .ensures .1)
+    omega (arith, in-turn i .small, in-turn i .most, c .if1 .left, here (c .before), asked (i .before) .small)
 
 loop-less : tie.Need-loop-less Inv-loop μ-loop
 loop-less c =
     let i = c .before .before in
-    less (i .loop-test .taken) (omega (arith, in-turn i .least, c .before .word2 .ensures .0, c .if1 .left))
+    less (i .loop-test .taken) (omega (arith, in-turn i .least, here (c .before), c .if1 .left))
 
 loop-again : tie.Need-loop-again Inv-loop μ-loop
 loop-again c =
     let i = c .before .before in
     let v = i .before .loop .inv in
-    let z = sym (c .if1 .left) ∙ c .before .word2 .ensures .0 in
+    let z = sym (c .if1 .left) ∙ here (c .before) in
     record {
       kept = λ ix₀ f. filling-next (v .kept ix₀ f) (i .loop-test .taken) z;
       from = omega (arith, v .from);
@@ -100,11 +103,9 @@ fill-alike-spec =
     (tie.spec
     Inv-loop
     μ-loop
-    add-word
-    word-requires
+    size-at-requires
     loop-holds
-    add-word-2
-    word-requires-2
+    size-at-requires-2
     same-length
     returns
     cast-index

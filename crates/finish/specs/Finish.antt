@@ -2,15 +2,15 @@
 -- the count, index places 0 to count-1 written, the others kept"; rows 17 and 18). Assumes nothing.
 use Prim.Native.Nat.{ℕ, _+_, _≤_, _<_}
 use mathlib.Core.Path.{_≡_}
-use mathlib.Core.Logic.{_⊎_}
 use mathlib.Core.List.{List, [], _∷_}
 use lib.ListN.{length, set}
 use Rattle.calendar.specs.Said.{refusing}
 use Rattle.mphr.specs.Table.{declared}
-use Rattle.judge.specs.Table.{Site, site, first, Leads, here, on, Clean, Given}
-use Rattle.judge.specs.declared.finished.Finished.{Finished}
-use Rattle.judge.specs.declared.finished.Finished.the-variants.{Accepted, Refused}
-use Rattle.judge.specs.declared.finished.Reached.{Reached}
+use Rattle.judge.specs.Table.{Site, site, Leads, here, on, Clean, Given}
+use Rattle.judge.specs.Extent.{Short, Complete, Covered}
+use Rattle.finish.specs.declared.Finished.{Finished}
+use Rattle.finish.specs.declared.Finished.the-variants.{Accepted, Refused}
+use Rattle.finish.specs.declared.Reached.{Reached}
 
 -- the starts of the records on the way from x to y
 abbrev pub starts : {a : List ℕ} {x y : Site} → Leads a x y → List ℕ
@@ -22,23 +22,10 @@ abbrev pub put : ℕ → List ℕ → List ℕ → List ℕ
 put k [] ix = ix
 put k (v ∷ l) ix = put (k + 1) l (set ix k v)
 
--- no fault is shown, and the last byte of the main header and of D has come
-pub record Complete (a : List ℕ) : Type 0 where
-  pub clean : Clean a
-  pub header : 3307 ≤ length a
-  pub come : declared a ≤ length a
-
--- c records, with the main header, go from the product's first byte to its last
-pub record Covered (a : List ℕ) (c : ℕ) : Type 0 where
-  pub last : Site
-  pub way : Leads a first last
-  pub ends : last .at ≡ declared a
-  pub counted : last .count ≡ c
-
 -- a product is refused with (n, p), by an index of that room: by the table; row 17, "finished short of 3,307 or of D"; row 18, "lent room too small"
 pub data Refuses (a : List ℕ) (room : ℕ) : ℕ → ℕ → Type 0 where
   faulty : {n p : ℕ} → Given a n p → Refuses a room n p
-  short : Clean a → (length a < 3307) ⊎ (length a < declared a) → Refuses a room 17 (length a)
+  short : Clean a → Short a → Refuses a room 17 (length a)
   no-room : {c : ℕ} → Complete a → Covered a c → room < c → Refuses a room 18 c
 
 -- the index ix has become ix′: the main header's start first, then the others'; what stood at the other places is kept

@@ -1,11 +1,10 @@
 // The finished judge: the arrival judge's refusals, then 17 and 18; where it accepts, the records' starts go into the lent index.
-use crate::arrival::Arrival;
-use crate::arrival::judge_arrival;
-use crate::arrival::size_of;
-use crate::header::word;
-use calendar::Refusal;
+pub use calendar::Refusal;
+use judge::arrival::Extent;
+use judge::arrival::judge_extent;
+use record::header::size_at;
 ghost use mathlib.Core.Path.{_≡_};
-ghost use Rattle.judge.specs.Finish.{Stretch, Stretched, Fillable, Filled, FinishedIs, refusedWith};
+ghost use Rattle.finish.specs.Finish.{Stretch, Stretched, Fillable, Filled, FinishedIs, refusedWith};
 
 pub enum Finished {
     Accepted { count: usize },
@@ -24,11 +23,11 @@ fn fill_alike(s: &[u8], index: &mut [u32], k: usize, at: usize) -> Reached
     requires { ⌜ Stretch (now s) (now index) k at ⌝ }
     ensures { λ r. ⌜ Stretched (now (s .entry)) (now (index .entry)) k at r (now (index .exit)) ⌝ }
 {
-    let size = word(s, at + 4);
+    let size = size_at(s, at);
     let mut count = k;
     let mut end = at;
     while end < s.len() {
-        if word(s, end + 4) != size {
+        if size_at(s, end) != size {
             return Reached { count, end };
         }
         index[count] = end as u32;
@@ -64,15 +63,10 @@ fn refused(number: u8, place: usize) -> Finished
 pub fn judge_finished(s: &[u8], index: &mut [u32]) -> Finished
     ensures { λ r. ⌜ FinishedIs (now (s .entry)) (now (index .entry)) r (now (index .exit)) ⌝ }
 {
-    match judge_arrival(s) {
-        Arrival::Refused(r) => Finished::Refused(r),
-        Arrival::Waiting { count, end: _ } => {
-            if s.len() < 3307 {
-                return refused(17, s.len());
-            }
-            if s.len() < size_of(s) {
-                return refused(17, s.len());
-            }
+    match judge_extent(s) {
+        Extent::Refused(r) => Finished::Refused(r),
+        Extent::Part => refused(17, s.len()),
+        Extent::Entire { count } => {
             if index.len() < count {
                 return refused(18, count);
             }

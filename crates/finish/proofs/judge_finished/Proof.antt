@@ -1,0 +1,89 @@
+-- `finish::judge_finished` meets its contract: a refusal of the arrival is the product's, a part of it is row 17, and what is entire is covered by
+-- its records, for which the index has room or has not. Assumes nothing.
+use borrow.Author.Needs.{needs}
+use native.Mathlib.Omega.{arith}
+use denote.Ref.{now}
+use mathlib.Core.Path.{_≡_, refl}
+use Rattle.mphr.proofs.Export.{sized}
+use Rattle.judge.specs.Extent.{Complete, Covered, ExtentIs}
+use Rattle.judge.specs.declared.arrival.Extent.{Extent}
+use Rattle.judge.specs.declared.arrival.Extent.the-variants.{Part, Entire, Refused}
+use Rattle.judge.proofs.Covering.{complete-fine, whole-come}
+use Rattle.finish.specs.Finish.{faulty, short, no-room}
+use Rattle.finish.proofs.Filling.{refused-with}
+use Rattle.finish.proofs.judge_finished.Statement.{statement}
+use Rattle.finish.proofs.judge_finished.Tie as tie
+
+abbrev S : tie.After-judge-extent → tie.Start
+S c = c .before .before .before
+
+told : (c : tie.After-judge-extent) (r : Extent) → c .judge-extent .result ≡ r → ExtentIs (now (S c .args .s)) r
+told c r e = rw e at (c .judge-extent .ensures)
+
+abbrev J : tie.After-known-told2 → tie.After-judge-extent
+J c = c .before .before .before
+
+entire : (c : tie.After-known-told2) → Complete (now (S (J c) .args .s)) × Covered (now (S (J c) .args .s)) (c .before .count .given .0 .0)
+entire c = let g = c .before .count .given in told (J c) (Entire (g .0 .0)) (g .1)
+
+judge-extent-requires : tie.Need-judge-extent-requires
+judge-extent-requires c κs = search needs
+
+enum-known-r : tie.Need-enum-known-r
+enum-known-r c = search needs
+
+enum-told : tie.Need-enum-told
+enum-told c = search needs
+
+refused-requires : tie.Need-refused-requires
+refused-requires c κs = search needs
+
+enum-known-count : tie.Need-enum-known-count
+enum-known-count c = search needs
+
+refused-requires-2 : tie.Need-refused-requires-2
+refused-requires-2 c κs = search needs
+
+returns : tie.Need-returns
+returns c =
+    let k = c .before .before in
+    refused-with (now (S (J k) .args .s)) _ (c .refused2 .ensures) (no-room (entire k .0) (entire k .1) (c .before .if1 .taken))
+
+fill-requires : tie.Need-fill-requires
+fill-requires c κs =
+    let k = c .before .before in
+    let e = entire k in
+    let w = whole-come (e .0) in
+    record { count = k .before .count .given .0 .0; covered = e .1; come = w; small = omega (arith, w, sized (complete-fine (e .0))); room = c .before .if1 .left }
+
+returns-2 : tie.Need-returns-2
+returns-2 c = let g = c .before .r .given in (faulty (told (c .before .before .before) (Refused (g .0 .0)) (g .1)), refl)
+
+returns-3 : tie.Need-returns-3
+returns-3 c =
+    let j = c .before .before .before in
+    let p = told j Part (c .before .enum-told .given .1) in
+    refused-with (now (S j .args .s)) _ (c .refused .ensures) (short (p .0) (p .1))
+
+same-length : tie.Need-same-length
+same-length c = search needs
+
+returns-4 : tie.Need-returns-4
+returns-4 c = record { complete = entire (c .before .before .before .before .before) .0; filled = c .before .before .fill .ensures }
+
+pub judge-finished-spec : {M : Type 1} → statement M
+judge-finished-spec =
+    tie.close
+    (tie.spec
+    judge-extent-requires
+    enum-known-r
+    enum-told
+    refused-requires
+    enum-known-count
+    refused-requires-2
+    returns
+    fill-requires
+    returns-2
+    returns-3
+    same-length
+    returns-4)

@@ -4,9 +4,9 @@ use native.Mathlib.Decide.{ℕ-discrete}
 use native.Mathlib.Omega.{arith}
 use mathlib.Core.Path.{_≡_, refl, sym, ap, _∙_}
 use mathlib.Core.List.{List}
-use borrow.Author.Tests.{le-leb}
 use lib.ListN.{length, set, length-set}
 use Rattle.record.specs.Header.{sizeThere}
+use Rattle.record.proofs.HeaderLaws.{size-there}
 use Rattle.judge.specs.Table.{Site, site, first, classAt, sizeAt, oneMore, Leads, here, on, next}
 use Rattle.finish.specs.Finish.{starts, put, Refuses, Filled, FinishedIs, refusedWith, Fillable, Filling}
 use Rattle.finish.specs.declared.Finished.{Finished}
@@ -49,7 +49,7 @@ within f h =
 
 -- the size that is read there
 pub there : {a ix : List ℕ} {k i : ℕ} → Within a ix k i → sizeThere a i ≡ sizeAt a i
-there {a} {i = i} w = rw (le-leb (i + 8) (length a) (omega (arith, w .least, w .most))) refl
+there {a} {i = i} w = size-there a i (omega (arith, w .least, w .most))
 
 step : {a : List ℕ} (ix : List ℕ) {x y : Site} (l : Leads a x y) → x .at < y .at → (m : Leads a (next a x) y) × (put (x .count) (starts l) ix ≡ put (x .count + 1) (starts m) (set ix (x .count) (x .at)))
 step ix here h = absurd (omega arith)

@@ -2,14 +2,13 @@
 use calendar::Refusal;
 use judge::arrival::Extent;
 use judge::arrival::judge_extent;
-use meter::integer::Unsigned;
+use record::header::size_at;
 ghost use mathlib.Core.Path.{_≡_};
 ghost use mathlib.Core.Bool.{true};
 ghost use mathlib.Core.List.{_++_};
 ghost use Prim.Native.Nat.{_+_, _≤_, _<_};
 ghost use lib.ListN.{length};
 ghost use Rattle.text.specs.Writing.{fitsText};
-ghost use Rattle.judge.specs.Table.{sizeAt};
 ghost use Rattle.listing.specs.Decimal.{decimal, column, Puts};
 ghost use Rattle.listing.specs.Listing.{line, Listable, Needs, Roomy, Full, ListedIs, LineIs, refusedWith};
 
@@ -24,17 +23,6 @@ fn wide(b: u8) -> usize
     ensures { λ r. ⌜ r ≡ b ⌝ }
 {
     b as usize
-}
-
-// The size of the record at `at`.
-fn size_at(s: &[u8], at: usize) -> usize
-    requires { ⌜ at + 8 ≤ length (now s) ⌝ }
-    ensures { λ r. ⌜ (r ≡ sizeAt (now (s .entry)) at) × (r < 4294967296) ⌝ }
-{
-    match meter::integer::read_unsigned(s, at + 4, 4) {
-        Unsigned::Value(v) => v as usize,
-        Unsigned::Refused(_) => 0,
-    }
 }
 
 // How many digits v has.

@@ -4,10 +4,10 @@ use judge::arrival::Arrival;
 use judge::arrival::judge_arrival;
 use meter::general::General;
 use meter::general::GeneralRead;
-use meter::integer::Unsigned;
 use mphr::layout::FieldPlace;
 use record::header::Header;
 use record::header::HeaderRead;
+use record::header::size_at;
 use text::Kind;
 use text::Number;
 use text::NumberRead;
@@ -15,7 +15,6 @@ ghost use mathlib.Core.Path.{_≡_};
 ghost use mathlib.Core.Bool.{true, false};
 ghost use Prim.Native.Nat.{_+_, _≤_, _<_};
 ghost use lib.ListN.{length};
-ghost use Rattle.judge.specs.Table.{sizeAt};
 ghost use Rattle.query.specs.Query.{refusalOf, StartOf, RecordIs, Reachable, timesOf, texts, sortOf, noField, FieldIs};
 ghost use Rattle.query.specs.Query.{NumberIs, TimeIs, latitudeField, pointOf, PointIs, Exact};
 
@@ -70,17 +69,6 @@ fn refusal_of(judged: Arrival) -> Refusal
             number: 0,
             place: 0,
         },
-    }
-}
-
-// The size of the record at `at`.
-fn size_at(s: &[u8], at: usize) -> usize
-    requires { ⌜ at + 8 ≤ length (now s) ⌝ }
-    ensures { λ r. ⌜ (r ≡ sizeAt (now (s .entry)) at) × (r < 4294967296) ⌝ }
-{
-    match meter::integer::read_unsigned(s, at + 4, 4) {
-        Unsigned::Value(v) => v as usize,
-        Unsigned::Refused(_) => 0,
     }
 }
 

@@ -14,7 +14,7 @@ use Rattle.meter.specs.Integer.{beAt, stored, isWidth, unsignedAt}
 use Rattle.meter.specs.Time.{isTime, bitsOf, timeAt, timeReadAt}
 use Rattle.meter.specs.declared.time.Time.{Time}
 use Rattle.meter.proofs.ReadsBack.{reads-answer}
-use Rattle.record.specs.Header.{isLead, isHeader, headerAt, headerReadAt, putHeader}
+use Rattle.record.specs.Header.{sizeThere, isLead, isHeader, headerAt, headerReadAt, putHeader}
 use Rattle.record.specs.declared.header.Header.{Header}
 use Rattle.record.proofs.FieldLaws.{both, part-inside, stored-one, width-four}
 
@@ -50,6 +50,10 @@ module _ (a : List ℕ) (at : ℕ) (h : at + 4 ≤ length a) where
       let t : true ≡ false = sym width-four ∙ f in
       let z : _≡_ {A = ℕ} 0 1 = cc in
       omega arith
+
+-- the size of a record, where its header has come
+pub size-there : (a : List ℕ) (at : ℕ) → at + 8 ≤ length a → sizeThere a at ≡ beAt a (at + 4) 4
+size-there a at h = rw (le-leb (at + 8) (length a) h) refl
 
 -- ---- the parts of a header
 pub header-parts : (h : Header) → isHeader h ≡ true → (isLead (h .class) (h .group) (h .size) ≡ true) × (isTime (h .start) ≡ true) × (isTime (h .stop) ≡ true)

@@ -1,5 +1,7 @@
 -- `listing::line_width` meets its contract: the digits of each column, and a byte after each. Assumes nothing.
 use native.Mathlib.Omega.{arith}
+use mathlib.Core.Path.{_∙_}
+use Rattle.record.proofs.HeaderLaws.{size-there}
 use Rattle.listing.proofs.WalkLaws.{width-at, line-length}
 use borrow.Author.Needs.{needs}
 use Rattle.listing.proofs.line_width.Statement.{statement}
@@ -87,7 +89,7 @@ returns c =
     let p1 = p2 .before .before .before in
     let s = p1 .before .before .before .before .args in
     let l = line-length (s .s .now) (s .at) in
-    let w6 = width-at (c .places6 .ensures .0) (z .size-at .ensures .0) in
+    let w6 = width-at (c .places6 .ensures .0) (z .size-at .ensures ∙ size-there (s .s .now) (s .at) (p1 .before .before .before .before .pre)) in
     let w5 = width-at (p5 .places5 .ensures .0) (p5 .before .wide4 .ensures) in
     let w3 = width-at (p3 .places3 .ensures .0) (p3 .before .wide3 .ensures) in
     let w2 = width-at (p2 .places2 .ensures .0) (p2 .before .wide2 .ensures) in

@@ -1,7 +1,11 @@
 -- `listing::needed` meets its contract: the bytes counted and those of the lines that are left are the listing's. Assumes nothing.
-use Prim.Native.Nat.{_-_}
+use Prim.Native.Nat.{ℕ, _-_}
 use native.Mathlib.Omega.{arith}
+use mathlib.Core.Path.{_≡_, _∙_}
+use mathlib.Core.List.{List}
 use lib.ListN.{length}
+use Rattle.record.proofs.HeaderLaws.{size-there}
+use Rattle.judge.specs.Table.{sizeAt}
 use Rattle.listing.proofs.WalkLaws.{Within, Counted, counted-first, counted-within, counted-next, counted-last, less}
 use borrow.Author.Needs.{needs}
 use Rattle.listing.proofs.needed.Statement.{statement}
@@ -42,18 +46,24 @@ add-n-3 c =
     omega (arith, l .inv .small, l .inv .asked .small, c .before .loop-test .taken, c .line-width2 .ensures .1)
 
 size-at-requires : tie.Need-size-at-requires Inv-loop μ-loop
-size-at-requires c κs = let w = in-turn (c .before) in omega (arith, w .least, w .most)
+size-at-requires c κs = search needs
+
+abbrev A : tie.After-size-at Inv-loop μ-loop → List ℕ
+A c = c .before .before .before .before .before .before .before .args .s .now
+
+size : (c : tie.After-size-at Inv-loop μ-loop) → c .size-at .result ≡ sizeAt (A c) (c .before .before .before .loop .at)
+size c = let w = in-turn (c .before .before) in c .size-at .ensures ∙ size-there (A c) (c .before .before .before .loop .at) (omega (arith, w .least, w .most))
 
 add-at : tie.Need-add-at Inv-loop μ-loop
-add-at c = let w = in-turn (c .before .before) in omega (arith, w .most, c .size-at .ensures .0, c .before .before .before .loop .inv .asked .small)
+add-at c = let w = in-turn (c .before .before) in omega (arith, w .most, size c, c .before .before .before .loop .inv .asked .small)
 
 loop-less : tie.Need-loop-less Inv-loop μ-loop
-loop-less c = let w = in-turn (c .before .before) in less (c .before .before .loop-test .taken) (omega (arith, w .least, c .size-at .ensures .0))
+loop-less c = let w = in-turn (c .before .before) in less (c .before .before .loop-test .taken) (omega (arith, w .least, size c))
 
 loop-again : tie.Need-loop-again Inv-loop μ-loop
 loop-again c =
     let w = c .before in
-    counted-next (w .before .before .loop .inv) (w .before .loop-test .taken) (w .line-width2 .ensures .0) (w .line-width2 .ensures .1) (c .size-at .ensures .0)
+    counted-next (w .before .before .loop .inv) (w .before .loop-test .taken) (w .line-width2 .ensures .0) (w .line-width2 .ensures .1) (size c)
 
 returns : tie.Need-returns Inv-loop μ-loop
 returns c = counted-last (c .before .loop .inv) (c .loop-test .left)

@@ -1,8 +1,10 @@
 -- `listing::put_line` meets its contract: six columns, one after the other. Assumes nothing.
 use Prim.Native.Nat.{ℕ, _+_, _≤_}
-use mathlib.Core.Path.{refl}
+use mathlib.Core.Path.{_≡_, refl, _∙_}
 use mathlib.Core.List.{List}
 use lib.ListN.{length, getD, drop}
+use Rattle.record.proofs.HeaderLaws.{size-there}
+use Rattle.judge.specs.Table.{sizeAt}
 use Rattle.listing.specs.Decimal.{column, Puts}
 use Rattle.listing.specs.Listing.{row, columns, line}
 use Rattle.listing.proofs.ColumnLaws.{column-at, fits-column, fits-last, fits-rest}
@@ -112,8 +114,14 @@ put-column-requires-5 c κs = let p = c .before .before .before .before .before 
 size-at-requires : tie.Need-size-at-requires
 size-at-requires c κs = search needs
 
+abbrev P : tie.After-size-at → tie.Start
+P c = S (C1 (C2 (C3 (C4 (c .before .before .before .before)))))
+
+size : (c : tie.After-size-at) → c .size-at .result ≡ sizeAt (P c .args .s .now) (P c .args .at)
+size c = c .size-at .ensures ∙ size-there (P c .args .s .now) (P c .args .at) (P c .pre .0)
+
 put-column-requires-6 : tie.Need-put-column-requires-6
-put-column-requires-6 c κs = fits-last _ (c .size-at .ensures .0) (fit6 (c .before .before .before .before))
+put-column-requires-6 c κs = fits-last _ (size c) (fit6 (c .before .before .before .before))
 
 same-length : tie.Need-same-length
 same-length c = search needs
@@ -130,7 +138,7 @@ returns c =
     (puts-append (put2 c2)
     (puts-append (put3 c3)
     (puts-append (put4 c4)
-    (puts-append (put5 c5) (column-at 10 (c6 .before .size-at .ensures .0) (c6 .put-column6 .ensures))))))
+    (puts-append (put5 c5) (column-at 10 (size (c6 .before)) (c6 .put-column6 .ensures))))))
 
 pub put-line-spec : {M : Type 1} → statement M
 put-line-spec =

@@ -1,9 +1,12 @@
 -- `listing::put_list` meets its contract: the lines that are left, put into the room as it is, give the whole listing. Assumes nothing.
-use Prim.Native.Nat.{_-_}
+use Prim.Native.Nat.{ℕ, _-_}
 use native.Mathlib.Omega.{arith}
-use mathlib.Core.Path.{refl, _∙_}
+use mathlib.Core.Path.{_≡_, refl, _∙_}
+use mathlib.Core.List.{List}
 use lib.ListN.{length}
 use Rattle.meter.specs.General.{runOf, lead}
+use Rattle.record.proofs.HeaderLaws.{size-there}
+use Rattle.judge.specs.Table.{sizeAt}
 use Rattle.listing.proofs.StoreLaws.{puts-append, puts-length}
 use Rattle.listing.proofs.WalkLaws.{Within, Laid, Begun, head-fits, begun-laid, laid-within, laid-fits, laid-next, laid-last, begun-last, less}
 use borrow.Author.Needs.{needs}
@@ -51,19 +54,25 @@ put-line-requires-2 c κs =
     (omega (arith, w .least, w .most), laid-fits (t .before .loop .inv) (t .loop-test .taken))
 
 size-at-requires : tie.Need-size-at-requires Inv-loop μ-loop
-size-at-requires c κs = let w = in-turn (c .before .before .before .before) in omega (arith, w .least, w .most)
+size-at-requires c κs = search needs
 
 abbrev I : tie.After-size-at Inv-loop μ-loop → tie.In-loop Inv-loop μ-loop
 I c = c .before .before .before .before .before
 
+abbrev A : tie.After-size-at Inv-loop μ-loop → List ℕ
+A c = S (H (I c .before .before .before .before)) .args .s .now
+
+size : (c : tie.After-size-at Inv-loop μ-loop) → c .size-at .result ≡ sizeAt (A c) (I c .before .loop .at)
+size c = let w = in-turn (I c) in c .size-at .ensures ∙ size-there (A c) (I c .before .loop .at) (omega (arith, w .least, w .most))
+
 add-at : tie.Need-add-at Inv-loop μ-loop
-add-at c = omega (arith, in-turn (I c) .most, c .size-at .ensures .0, I c .before .loop .inv .asked .small)
+add-at c = omega (arith, in-turn (I c) .most, size c, I c .before .loop .inv .asked .small)
 
 loop-less : tie.Need-loop-less Inv-loop μ-loop
-loop-less c = less (I c .loop-test .taken) (omega (arith, in-turn (I c) .least, c .size-at .ensures .0))
+loop-less c = less (I c .loop-test .taken) (omega (arith, in-turn (I c) .least, size c))
 
 loop-again : tie.Need-loop-again Inv-loop μ-loop
-loop-again c = laid-next (I c .before .loop .inv) (I c .loop-test .taken) (c .before .before .before .put-line2 .ensures) (c .size-at .ensures .0)
+loop-again c = laid-next (I c .before .loop .inv) (I c .loop-test .taken) (c .before .before .before .put-line2 .ensures) (size c)
 
 same-length : tie.Need-same-length Inv-loop μ-loop
 same-length c = c .before .loop .inv .size ∙ puts-length (begun (c .before .before .before .before) .puts)

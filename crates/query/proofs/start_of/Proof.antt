@@ -1,8 +1,11 @@
 -- `query::start_of` meets its contract: after each turn n records are passed, and the next is on the way to the last whole one. Assumes nothing.
 use Prim.Native.Nat.{_-_}
 use native.Mathlib.Omega.{arith}
-use mathlib.Core.Path.{refl}
+use mathlib.Core.Path.{_≡_, refl, _∙_}
 use mathlib.Core.Logic.{inl}
+use borrow.Author.Needs.{needs}
+use Rattle.record.proofs.HeaderLaws.{size-there}
+use Rattle.judge.specs.Table.{sizeAt}
 use Rattle.query.proofs.QueryLaws.{Walking, walking-first, Steady, steady, walking-next, walking-last}
 use Rattle.query.proofs.start_of.Statement.{statement}
 use Rattle.query.proofs.start_of.Tie as tie
@@ -23,10 +26,13 @@ loop-holds : tie.Need-loop-holds Inv-loop μ-loop
 loop-holds c = walking-first (c .before .before .pre) (c .if1 .left)
 
 size-at-requires : tie.Need-size-at-requires Inv-loop μ-loop
-size-at-requires c κs = let w = in-turn c in omega (arith, w .least, w .come)
+size-at-requires c κs = search needs
+
+size : (c : tie.After-size-at Inv-loop μ-loop) → c .size-at .result ≡ sizeAt (c .before .before .before .before .before .args .s .now) (c .before .before .loop .at)
+size c = let w = in-turn (c .before) in c .size-at .ensures ∙ size-there (c .before .before .before .before .before .args .s .now) (c .before .before .loop .at) (omega (arith, w .least, w .come))
 
 add-at : tie.Need-add-at Inv-loop μ-loop
-add-at c = let w = in-turn (c .before) in omega (arith, w .come, c .size-at .ensures .0)
+add-at c = let w = in-turn (c .before) in omega (arith, w .come, size c)
 
 add-n : tie.Need-add-n Inv-loop μ-loop
 add-n c = omega arith
@@ -35,7 +41,7 @@ loop-less : tie.Need-loop-less Inv-loop μ-loop
 loop-less c = omega arith
 
 loop-again : tie.Need-loop-again Inv-loop μ-loop
-loop-again c = walking-next (c .before .before .loop .inv) (c .before .loop-test .taken) (c .size-at .ensures .0)
+loop-again c = walking-next (c .before .before .loop .inv) (c .before .loop-test .taken) (size c)
 
 returns-2 : tie.Need-returns-2 Inv-loop μ-loop
 returns-2 c = walking-last (c .before .loop .inv) (c .loop-test .left)

@@ -13,7 +13,7 @@ ghost use Prim.Native.Nat.{_+_, _^_, _≤_, _<_};
 ghost use lib.ListN.{length};
 ghost use Rattle.meter.specs.General.{numberOf};
 ghost use Rattle.text.specs.Field.{isNumber};
-ghost use Rattle.mphr.specs.Layout.{widthOf, lineStart};
+ghost use Rattle.mphr.specs.Layout.{names, widthOf, lineStart};
 ghost use Rattle.mphr.specs.Table.{headed, named, framed, declared, total, sum, FirstIs};
 ghost use Rattle.mphr.specs.Turning.{Later, Counts, Ready, TurnedIs, refusedAt};
 
@@ -48,15 +48,13 @@ fn is_headed(s: &[u8]) -> bool
     }
 }
 
-fn is_named(s: &[u8], k: usize, at: usize) -> bool
-    requires { ⌜ (k < 72) × (at ≡ lineStart k) × (at + 30 ≤ length (now s)) ⌝ }
+fn is_named(s: &[u8], table: &[u8], k: usize, at: usize) -> bool
+    requires { ⌜ (k < 72) × (at ≡ lineStart k) × (at + 30 ≤ length (now s)) × (now table ≡ names) ⌝ }
     ensures { λ r. ⌜ r ≡ named (now (s .entry)) k ⌝ }
 {
-    // Once to a line: a const array is copied where it is named.
-    let names = NAMES;
     let mut j: usize = 0;
     while j < 30 {
-        if s[at + j] != names[30 * k + j] {
+        if s[at + j] != table[30 * k + j] {
             return false;
         }
         j += 1;
@@ -64,11 +62,11 @@ fn is_named(s: &[u8], k: usize, at: usize) -> bool
     true
 }
 
-fn is_framed(s: &[u8], k: usize, at: usize, w: usize) -> bool
-    requires { ⌜ (k < 72) × (at ≡ lineStart k) × (w ≡ widthOf k) × (at + w + 33 ≤ length (now s)) ⌝ }
+fn is_framed(s: &[u8], table: &[u8], k: usize, at: usize, w: usize) -> bool
+    requires { ⌜ (k < 72) × (at ≡ lineStart k) × (w ≡ widthOf k) × (at + w + 33 ≤ length (now s)) × (now table ≡ names) ⌝ }
     ensures { λ r. ⌜ r ≡ framed (now (s .entry)) k ⌝ }
 {
-    if !is_named(s, k, at) {
+    if !is_named(s, table, k, at) {
         return false;
     }
     if s[at + 30] != 61 {
@@ -152,8 +150,8 @@ fn refused(number: u8, place: usize) -> Turned
 }
 
 // One line.
-fn turn(s: &[u8], k: usize, at: usize) -> Turned
-    requires { ⌜ Ready (now s) k at ⌝ }
+fn turn(s: &[u8], table: &[u8], k: usize, at: usize) -> Turned
+    requires { ⌜ Ready (now s) k at × (now table ≡ names) ⌝ }
     ensures { λ r. ⌜ TurnedIs (now (s .entry)) k r ⌝ }
 {
     let w = width(k);
@@ -161,7 +159,7 @@ fn turn(s: &[u8], k: usize, at: usize) -> Turned
     if s.len() < to {
         return Turned::Stop(HeaderFault::Clean);
     }
-    if !is_framed(s, k, at, w) {
+    if !is_framed(s, table, k, at, w) {
         return refused(2, at);
     }
     if !text::is_value(s, at + 32, w, kind(k)) {
@@ -196,10 +194,12 @@ pub fn header_fault(s: &[u8]) -> HeaderFault
             place: 0,
         });
     }
+    // Once: a const array is copied where it is named.
+    let table = NAMES;
     let mut k: usize = 0;
     let mut at: usize = 20;
     while k < 72 {
-        match turn(s, k, at) {
+        match turn(s, &table, k, at) {
             Turned::Stop(f) => {
                 return f;
             }

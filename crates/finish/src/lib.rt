@@ -17,8 +17,8 @@ pub struct Reached {
     pub end: usize,
 }
 
-// The starts of the records from `at` on that are of one size go into the index, from place k on. The next start is known before the size that
-// stands there has come from memory, so the sizes are read side by side.
+// The starts of the records from `at` on that are of one size go into the index, from place k on. The next start is known before the
+// size that stands there has come from memory, so the sizes are read side by side.
 fn fill_alike(s: &[u8], index: &mut [u32], k: usize, at: usize) -> Reached
     requires { ⌜ Stretch (now s) (now index) k at ⌝ }
     ensures { λ r. ⌜ Stretched (now (s .entry)) (now (index .entry)) k at r (now (index .exit)) ⌝ }

@@ -107,8 +107,8 @@ pub(crate) fn rank(s: &[u8], totals: &[usize], tally: &[usize], d: usize, at: us
 // The most headers that are read ahead.
 const AHEAD: usize = 24;
 
-// Records are mostly of one size, and then their headers can be read ahead side by side, which brings them from memory together; `left` of those
-// read are still ahead. A hint: no answer depends on it.
+// Records are mostly of one size, and then their headers can be read ahead side by side, which brings them from memory together;
+// `left` of those read are still ahead. A hint: no answer depends on it.
 pub(crate) fn look_ahead(s: &[u8], at: usize, left: usize) -> usize
     requires { ⌜ at ≤ length (now s) ⌝ }
 {

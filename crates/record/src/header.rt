@@ -11,7 +11,8 @@ ghost use lib.Dec.{leb};
 ghost use lib.ListN.{length};
 ghost use Rattle.meter.specs.Integer.{beAt, stored};
 ghost use Rattle.meter.specs.Time.{isTime, bitsOf};
-ghost use Rattle.record.specs.Header.{sizeThere, isClass, isGroup, isLead, isHeader, headerReadAt, saidHeader, putHeader, WritesHeader};
+ghost use Rattle.record.specs.Header.{sizeThere, isClass, isGroup, isLead, isHeader};
+ghost use Rattle.record.specs.Header.{headerReadAt, saidHeader, putHeader, WritesHeader};
 
 pub struct Header {
     pub class: u8,

@@ -36,6 +36,9 @@ module _ {a : List ℕ} {e lo hi k q : ℕ} (s : Scan a e lo hi k q) where
   pub scan-room : q < e → (q + sizeAt a q ≤ e) × (20 ≤ sizeAt a q) × (e ≤ length a)
   scan-room h = (leads-le (scan-next h), scan-sound h .least, s .goal .come)
 
+  pub scan-ipr : q < e → classAt a q ≡ 3 → 27 ≡ sizeAt a q
+  scan-ipr h o = sym (scan-sound h .ipr o)
+
   pub looking : q < e → Looking a q
   looking h = let r = scan-room h in record { come = omega (arith, r .2); ipr = λ o. omega (arith, r .0, r .2, scan-sound h .ipr o) }
 

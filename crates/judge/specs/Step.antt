@@ -128,8 +128,14 @@ pub record Beyond (a : List ℕ) (q hi : ℕ) (rising : Bool) : Type 0 where
   pub ipr : classAt a q ≡ 3
   pub over : hi ≤ offsetAt a q
 
+-- the record at byte q is a pointer that is not looked for
+pub record Missed (a : List ℕ) (q lo hi k : ℕ) : Type 0 where
+  pub ipr : classAt a q ≡ 3
+  pub not-met : Met a q lo hi k → ⊥
+
 abbrev pub LookIs : List ℕ → ℕ → ℕ → ℕ → ℕ → Bool → Look → Type 0
 LookIs a q lo hi k rising K.Pass = Met a q lo hi k → ⊥
+LookIs a q lo hi k rising K.Miss = Missed a q lo hi k
 LookIs a q lo hi k rising K.Found = Met a q lo hi k
 LookIs a q lo hi k rising K.Stop = Beyond a q hi rising
 

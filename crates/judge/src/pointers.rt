@@ -54,9 +54,10 @@ pub(crate) fn no_pointers(d: usize) -> Pointers
     }
 }
 
-// What a record is to a search.
+// What a record is to a search: no pointer, one that is not looked for, the one that is, or past it.
 pub enum Look {
     Pass,
+    Miss,
     Found,
     Stop,
 }
@@ -72,16 +73,16 @@ fn look_at(s: &[u8], q: usize, lo: usize, hi: usize, kind: usize, rising: bool) 
     }
     let target = word(s, q + 23);
     if target < lo {
-        return Look::Pass;
+        return Look::Miss;
     }
     if hi <= target {
         if rising {
             return Look::Stop;
         }
-        return Look::Pass;
+        return Look::Miss;
     }
     if triple(s, q + 20) == kind {
-        return Look::Pass;
+        return Look::Miss;
     }
     Look::Found
 }
@@ -99,6 +100,9 @@ fn pointer(s: &[u8], w: Pointers, lo: usize, hi: usize, kind: usize) -> usize
             }
             Look::Stop => {
                 return 0;
+            }
+            Look::Miss => {
+                q += 27;
             }
             Look::Pass => {
                 q += word(s, q + 4);

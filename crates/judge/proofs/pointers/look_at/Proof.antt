@@ -37,7 +37,8 @@ triple-requires : tie.Need-triple-requires
 triple-requires c κs = omega (arith, c .before .before .before .before .before .before .pre .ipr (c .before .before .before .if1 .left))
 
 returns-5 : tie.Need-returns-5
-returns-5 c = λ m. m .unlike (omega (arith, c .before .triple .ensures .1, c .if5 .taken)) (sym (c .before .triple .ensures .0) ∙ c .if5 .taken)
+returns-5 c =
+    record { ipr = c .before .before .before .before .before .if1 .left; not-met = λ m. m .unlike (omega (arith, c .before .triple .ensures .1, c .if5 .taken)) (sym (c .before .triple .ensures .0) ∙ c .if5 .taken) }
 
 returns-6 : tie.Need-returns-6
 returns-6 c = search needs

@@ -8,10 +8,10 @@ use mathlib.Core.Path.{_≡_, subst}
 use mathlib.Core.List.{List}
 use lib.ListN.{length}
 use Rattle.judge.specs.Table.{sizeAt}
-use Rattle.judge.specs.Step.{Scan, LookIs}
+use Rattle.judge.specs.Step.{Scan, Missed, LookIs}
 use Rattle.judge.specs.declared.pointers.Look.{Look}
 use Rattle.judge.specs.declared.pointers.Look.the-variants as K
-use Rattle.judge.proofs.ScanLaws.{scan-room, looking, scan-pass, scan-found, scan-stop, scan-none, scan-narrow, less}
+use Rattle.judge.proofs.ScanLaws.{scan-room, scan-ipr, looking, scan-pass, scan-found, scan-stop, scan-none, scan-narrow, less}
 use Rattle.judge.proofs.pointers.pointer.Statement.{statement}
 use Rattle.judge.proofs.pointers.pointer.Tie as tie
 
@@ -57,7 +57,26 @@ returns-2 c =
 enum-told-3 : tie.Need-enum-told-3 Inv-loop μ-loop
 enum-told-3 c = search needs
 
-room : (c : tie.After-enum-told3 Inv-loop μ-loop) → (q (c .before .before .before) + sizeAt (now (St (c .before .before .before) .args .s)) (q (c .before .before .before)) ≤ St (c .before .before .before) .args .w .end) × (20 ≤ sizeAt (now (St (c .before .before .before) .args .s)) (q (c .before .before .before))) × (St (c .before .before .before) .args .w .end ≤ length (now (St (c .before .before .before) .args .s)))
+-- a pointer that is not looked for has 27 bytes
+missed : (c : tie.After-enum-told3 Inv-loop μ-loop) → Missed (now (St (c .before .before .before) .args .s)) (q (c .before .before .before)) (St (c .before .before .before) .args .lo) (St (c .before .before .before) .args .hi) (St (c .before .before .before) .args .kind)
+missed c = told (c .before .before) K.Miss (c .enum-told3 .given .1)
+
+wide : (c : tie.After-enum-told3 Inv-loop μ-loop) → 27 ≡ sizeAt (now (St (c .before .before .before) .args .s)) (q (c .before .before .before))
+wide c = let d = c .before .before .before in scan-ipr (scan d) (d .if1 .taken) (missed c .ipr)
+
+add-q : tie.Need-add-q Inv-loop μ-loop
+add-q c = let d = c .before .before .before in record { fits = omega (arith, scan-room (scan d) (d .if1 .taken), wide c) }
+
+loop-less : tie.Need-loop-less Inv-loop μ-loop
+loop-less c = less (c .before .before .before .if1 .taken) (omega arith)
+
+loop-again : tie.Need-loop-again Inv-loop μ-loop
+loop-again c = let d = c .before .before .before in scan-pass (scan d) (d .if1 .taken) (missed c .not-met) 27 (wide c)
+
+enum-told-4 : tie.Need-enum-told-4 Inv-loop μ-loop
+enum-told-4 c = search needs
+
+room : (c : tie.After-enum-told4 Inv-loop μ-loop) → (q (c .before .before .before) + sizeAt (now (St (c .before .before .before) .args .s)) (q (c .before .before .before)) ≤ St (c .before .before .before) .args .w .end) × (20 ≤ sizeAt (now (St (c .before .before .before) .args .s)) (q (c .before .before .before))) × (St (c .before .before .before) .args .w .end ≤ length (now (St (c .before .before .before) .args .s)))
 room c = let d = c .before .before .before in scan-room (scan d) (d .if1 .taken)
 
 add-word : tie.Need-add-word Inv-loop μ-loop
@@ -66,16 +85,16 @@ add-word c = record { fits = omega (arith, room c) }
 word-requires : tie.Need-word-requires Inv-loop μ-loop
 word-requires c κs = omega (arith, room c)
 
-add-q : tie.Need-add-q Inv-loop μ-loop
-add-q c = record { fits = omega (arith, room (c .before), c .word .ensures) }
+add-q-2 : tie.Need-add-q-2 Inv-loop μ-loop
+add-q-2 c = record { fits = omega (arith, room (c .before), c .word .ensures) }
 
-loop-less : tie.Need-loop-less Inv-loop μ-loop
-loop-less c = let d = c .before .before .before .before in less (d .if1 .taken) (omega (arith, room (c .before), c .word .ensures))
+loop-less-2 : tie.Need-loop-less-2 Inv-loop μ-loop
+loop-less-2 c = let d = c .before .before .before .before in less (d .if1 .taken) (omega (arith, room (c .before), c .word .ensures))
 
-loop-again : tie.Need-loop-again Inv-loop μ-loop
-loop-again c =
+loop-again-2 : tie.Need-loop-again-2 Inv-loop μ-loop
+loop-again-2 c =
     let d = c .before .before .before in
-    scan-pass (scan (d .before)) (d .before .if1 .taken) (told d K.Pass (c .before .enum-told3 .given .1)) (c .word .result) (c .word .ensures .0)
+    scan-pass (scan (d .before)) (d .before .if1 .taken) (told d K.Pass (c .before .enum-told4 .given .1)) (c .word .result) (c .word .ensures .0)
 
 returns-3 : tie.Need-returns-3 Inv-loop μ-loop
 returns-3 c = scan-none (c .before .before .loop .inv) (c .if1 .left)
@@ -93,9 +112,13 @@ pointer-spec =
     enum-told-2
     returns-2
     enum-told-3
-    add-word
-    word-requires
     add-q
     loop-less
     loop-again
+    enum-told-4
+    add-word
+    word-requires
+    add-q-2
+    loop-less-2
+    loop-again-2
     returns-3)

@@ -1,7 +1,7 @@
 // Dates of the Gregorian calendar, years 0000 to 9999, and their day numbers, 0 to 65535 from 1 January 2000.
 ghost use mathlib.Core.Path.{_≡_};
 ghost use Prim.Native.Nat.{_≤_, _<_};
-ghost use Rattle.calendar.specs.Calendar.{leap, daysIn, date, isDate, dateOf, dayNumberOf, saidDay};
+ghost use Rattle.calendar.specs.Calendar.{leap, daysIn, isDate, dateOf, dayNumberOf, saidDay};
 ghost use Rattle.calendar.specs.Closed.{layoutOf, monthAt, startOf, shiftOf, closedNumber};
 
 // Why nothing else is answered: the paper's number, and the place that goes with it.
@@ -74,14 +74,6 @@ pub fn is_date(date: Date) -> bool
         return false;
     }
     day <= days_in(year, month)
-}
-
-// The same for hosts that are not Rattle, under a name of its own.
-#[no_mangle]
-pub extern "C" fn calendar_is_date(year: u16, month: u8, day: u8) -> bool
-    ensures { λ r. ⌜ r ≡ isDate (date year month day) ⌝ }
-{
-    is_date(Date { year, month, day })
 }
 
 // The day of a year, counted from 0, as if the year had a February of 29 days.

@@ -14,8 +14,6 @@ use Rattle.meter.specs.General.{digitsOf, generalReadAt, saidGeneral, pu
 use Rattle.meter.specs.Scaled.{scaledReadAt, saidScaled, fitsScaled, putScaled, WritesScaled}
 use Rattle.meter.specs.Rounding.{roundedOf, saidRounded}
 use Rattle.meter.specs.Reading.{readingOf, saidReading}
-use Rattle.meter.specs.Host.{handed}
-use lib.Ieee.{Float}
 use Rattle.meter.specs.declared.integer.Written.{Written}
 use Rattle.meter.specs.declared.integer.Written.the-variants as W
 use Rattle.meter.specs.declared.integer.Unsigned.{Unsigned}
@@ -166,8 +164,3 @@ unique-time-text room t = one-writing room 18 (isTime t) (putGeneral 17 room (ge
 
 pub unique-write-scaled : (room : List ℕ) (signed : Bool) (n : ℕ) (x : Scaled) (r s : Written) (p q : List ℕ) → WritesScaled room signed n x r p → WritesScaled room signed n x s q → (r ≡ s) × (p ≡ q)
 unique-write-scaled room signed n x = one-writing room (1 + n) (fitsScaled signed n x) (putScaled signed n room x)
-
-pub unique-meter-reading : (integer scale : ℤ) (old : Float) (r s : ℕ) (p q : Float) → handed integer scale old ≡ (r, p) → handed integer scale old ≡ (s, q) → (r ≡ s) × (p ≡ q)
-unique-meter-reading integer scale old r s p q x y =
-    let e = sym x ∙ y in
-    (ap (λ (h : ℕ × Float). h .0) e, ap (λ (h : ℕ × Float). h .1) e)

@@ -5,4 +5,3 @@ pub mod General
 pub mod Scaled
 pub mod Rounding
 pub mod Reading
-pub mod Host

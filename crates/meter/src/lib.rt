@@ -3,7 +3,6 @@
 pub use calendar::Refusal;
 
 pub mod general;
-pub mod host;
 pub mod integer;
 pub mod scaled;
 pub mod time;

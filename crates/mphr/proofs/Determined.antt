@@ -2,8 +2,10 @@
 -- (`unique-header-fault`); the others are equations through what an answer says. Assumes nothing.
 use mathlib.Core.Path.{_≡_, refl}
 use mathlib.Core.Bool.{Bool}
-use mathlib.Core.List.{List}
+use mathlib.Core.List.{List, _++_}
 use Prim.Native.Nat.{ℕ, _+_}
+use lib.Dec.{leb}
+use lib.ListN.{length, drop}
 use Rattle.calendar.specs.Said.{Said, answer, refusal, refusing}
 use Rattle.calendar.proofs.Determined.{fixes, only}
 use Rattle.meter.specs.Lent.{wrote, saidWritten}
@@ -13,9 +15,9 @@ use Rattle.meter.proofs.Determined.{unsaidWritten, written-back}
 use Rattle.meter.specs.General.{digitsOf, putGeneral}
 use Rattle.text.specs.Writing.{putNumber, putText}
 use Rattle.text.specs.declared.Number.{Number}
-use Rattle.mphr.specs.Layout.{widthOf, kindOf, fieldOf, saidPlace}
+use Rattle.mphr.specs.Layout.{nameOf, widthOf, kindOf, fieldOf, saidPlace}
 use Rattle.mphr.specs.Lookup.{fieldNamed, saidField}
-use Rattle.mphr.specs.Lines.{isLong, textOn, numberOn, timeOn, putLine, writesLine, WritesLine, WritesTextLine, WritesNumberLine, WritesTimeLine}
+use Rattle.mphr.specs.Lines.{isLong, textOn, numberOn, timeOn, putLine, writesLine, WritesLine, WritesTextLine, WritesNumberLine, WritesTimeLine, WritesName}
 use Rattle.mphr.specs.declared.layout.Place.{Place}
 use Rattle.mphr.specs.declared.layout.FieldPlace.{FieldPlace}
 use Rattle.mphr.specs.declared.layout.FieldPlace.the-variants as P
@@ -56,3 +58,9 @@ unique-write-number-line room k x = one-line room k (numberOn k x) (λ (a : List
 
 pub unique-write-time-line : (room : List ℕ) (k : ℕ) (t : General) (r s : Written) (p q : List ℕ) → WritesTimeLine room k t r p → WritesTimeLine room k t s q → (r ≡ s) × (p ≡ q)
 unique-write-time-line room k t = one-line room k (timeOn k t) (λ (a : List ℕ). putGeneral (digitsOf (isLong (kindOf k))) a t)
+
+pub unique-write-name : (room : List ℕ) (k : ℕ) (r s : Written) (p q : List ℕ) → WritesName room k r p → WritesName room k s q → (r ≡ s) × (p ≡ q)
+unique-write-name room k r s p q x y = (
+  fixes saidWritten unsaidWritten written-back (writesLine room (length (nameOf k)) (leb k 71)) r s (x .0) (y .0),
+  only (wrote room (length (nameOf k)) (leb k 71) (nameOf k ++ drop (length (nameOf k)) room)) p q (x .1) (y .1),
+)

@@ -10,8 +10,8 @@ use borrow.Author.Tests.{le-leb, lt-leb, leb-true}
 use borrow.Rule.Slice.PartMut.{midOf, postOf, putMid, post-is}
 use lib.Dec.{T, leb, ltb, eqb, eqb→eq}
 use lib.IntN.{ℤ, pos, negsuc}
-use lib.ListN.{length, getD, set, take, drop, length-set, length-drop}
-use lib.Seq.{getD-set-same, getD-set-other, take-all, drop-length}
+use lib.ListN.{length, getD, set, take, drop, length-set, length-drop, length-append, List·getD-append}
+use lib.Seq.{getD-set-same, getD-set-other, getD-append-add, getD-drop, ext-getD, take-all, drop-length}
 use Rattle.calendar.specs.Said.{Said, answer, refusal}
 use Rattle.calendar.proofs.Range.{below, at}
 use Rattle.meter.specs.Lent.{wrote}
@@ -22,7 +22,8 @@ use Rattle.text.specs.declared.Number.{Number}
 use Rattle.text.specs.declared.Number.the-variants as N
 use Rattle.text.specs.declared.Kind.the-variants.{Text, Unsigned, Count, Signed, Time, LongTime}
 use Rattle.text.specs.declared.Kind.{Kind}
-use Rattle.mphr.specs.Layout.{fields, widths, kinds, names, widthOf, kindOf}
+use Rattle.mphr.specs.Layout.{fields, widths, kinds, names, nameOf, widthOf, kindOf}
+use Rattle.mphr.proofs.NameLaws.{byte-in, most}
 use Rattle.mphr.specs.Lines.{textFits, numberFits, timeFits, isLong, putName, putFrame, putLine, writesLine}
 
 -- ---- a test on the kind of field k
@@ -63,6 +64,39 @@ name-bytes a k (suc n) j r h =
     go : Dec (j ≡ n) → (j < n → getD (putName (set a n (getD names (30 * k + n) 0)) k n) j 0 ≡ getD names (30 * k + j) 0) → getD (putName (set a n (getD names (30 * k + n) 0)) k n) j 0 ≡ getD names (30 * k + j) 0
     go (yes e) f = rw (name-kept (set a n (getD names (30 * k + n) 0)) k n j (omega arith), e, getD-set-same a n (getD names (30 * k + n) 0) 0 (omega arith))
     go (no d) f = f (omega (arith, d))
+
+-- as many bytes as the name has are the name, and what lies beyond is kept
+module _ (a : List ℕ) (k : ℕ) (h : k < 72) (room : length (nameOf k) ≤ length a) where
+  name-byte : (j : ℕ) → j < length a → Dec (j < length (nameOf k)) → getD (putName a k (length (nameOf k))) j 0 ≡ getD (nameOf k ++ drop (length (nameOf k)) a) j 0
+  name-byte j l (yes i) =
+      name-bytes a k (length (nameOf k)) j room i
+      ∙ byte-in k j h (omega (arith, most k h)) i
+      ∙ sym (List·getD-append (nameOf k) (drop (length (nameOf k)) a) 0 j i)
+  name-byte j l (no d) =
+      let e : length (nameOf k) + (j - length (nameOf k)) ≡ j = omega (arith, d) in
+      name-kept a k (length (nameOf k)) j (omega (arith, d))
+      ∙ sym (ap (λ (i : ℕ). getD a i 0) e)
+      ∙ sym (getD-drop (length (nameOf k)) a (j - length (nameOf k)) 0)
+      ∙ sym (getD-append-add (nameOf k) (drop (length (nameOf k)) a) (j - length (nameOf k)) 0)
+      ∙ ap (λ (i : ℕ). getD (nameOf k ++ drop (length (nameOf k)) a) i 0) e
+
+  pub name-laid : putName a k (length (nameOf k)) ≡ nameOf k ++ drop (length (nameOf k)) a
+  name-laid =
+      ext-getD 0 (putName a k (length (nameOf k))) (nameOf k ++ drop (length (nameOf k)) a)
+      (name-length a k (length (nameOf k)) ∙ sym (length-append (nameOf k) (drop (length (nameOf k)) a) ∙ omega (arith, length-drop (length (nameOf k)) a)))
+      (λ j l. name-byte j (omega (arith, name-length a k (length (nameOf k)))) (decLt j (length (nameOf k))))
+
+-- the three answers of the writer of names
+pub name-unfit : (a : List ℕ) (k : ℕ) → 71 < k → (refusal 22 0 ≡ writesLine a (length (nameOf k)) (leb k 71)) × (a ≡ wrote a (length (nameOf k)) (leb k 71) (nameOf k ++ drop (length (nameOf k)) a))
+name-unfit a k h = (rw (lt-leb k 71 h), rw (lt-leb k 71 h))
+
+pub name-small : (a : List ℕ) (k n : ℕ) → k ≤ 71 → n ≡ length (nameOf k) → length a < n → (refusal 18 n ≡ writesLine a (length (nameOf k)) (leb k 71)) × (a ≡ wrote a (length (nameOf k)) (leb k 71) (nameOf k ++ drop (length (nameOf k)) a))
+name-small a k n h e l = (rw (le-leb k 71 h, ← e, lt-leb n (length a) l), rw (le-leb k 71 h, ← e, lt-leb n (length a) l))
+
+pub name-done : (a b : List ℕ) (k n : ℕ) → k ≤ 71 → n ≡ length (nameOf k) → n ≤ length a → b ≡ putName a k n → (answer n ≡ writesLine a (length (nameOf k)) (leb k 71)) × (b ≡ wrote a (length (nameOf k)) (leb k 71) (nameOf k ++ drop (length (nameOf k)) a))
+name-done a b k n h e l q =
+    let m : length (nameOf k) ≤ length a = omega (arith, e) in
+    (rw (le-leb k 71 h, ← e, le-leb n (length a) l), rw (le-leb k 71 h, le-leb (length (nameOf k)) (length a) m) (q ∙ ap (putName a k) e ∙ name-laid a k (omega arith) m))
 
 -- ---- the frame
 pub frame-length : (k w : ℕ) (a : List ℕ) → length (putFrame k w a) ≡ length a

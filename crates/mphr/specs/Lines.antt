@@ -17,7 +17,7 @@ use Rattle.text.specs.declared.Kind.{Kind}
 use Rattle.text.specs.declared.Kind.the-variants.{Text, Unsigned, Count, Signed, Time, LongTime}
 use Rattle.text.specs.declared.Number.{Number}
 use Rattle.text.specs.declared.Number.the-variants as N
-use Rattle.mphr.specs.Layout.{names, widthOf, kindOf}
+use Rattle.mphr.specs.Layout.{names, nameOf, widthOf, kindOf}
 
 -- ---- what fits a line of the kind
 unfoldable pub textFits : Kind → ℕ → List ℕ → Bool
@@ -98,3 +98,9 @@ WritesNumberLine room k x r exit = WritesLine room k (numberOn k x) (λ (a : Lis
 
 abbrev pub WritesTimeLine : List ℕ → ℕ → General → Written → List ℕ → Type 0
 WritesTimeLine room k t r exit = WritesLine room k (timeOn k t) (λ (a : List ℕ). putGeneral (digitsOf (isLong (kindOf k))) a t) r exit
+
+-- THE NAME of field k, unpadded, and then what the room held: 22 where the number is not 0..71, then 18 with the bytes of the name
+abbrev pub WritesName : List ℕ → ℕ → Written → List ℕ → Type 0
+WritesName room k r exit =
+    (saidWritten r ≡ writesLine room (length (nameOf k)) (leb k 71))
+    × (exit ≡ wrote room (length (nameOf k)) (leb k 71) (nameOf k ++ drop (length (nameOf k)) room))

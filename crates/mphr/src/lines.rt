@@ -11,7 +11,7 @@ ghost use mathlib.Core.Path.{_≡_};
 ghost use Prim.Native.Nat.{_+_, _≤_, _<_};
 ghost use lib.ListN.{length};
 ghost use Rattle.mphr.specs.Layout.{widthOf, kindOf};
-ghost use Rattle.mphr.specs.Lines.{countFits, numberFits, textFits, timeFits, isLong, textOn, numberOn, timeOn, putFrame};
+ghost use Rattle.mphr.specs.Lines.{countFits, numberFits, textFits, timeFits, isLong, textOn, numberOn, timeOn, putName, putFrame};
 ghost use Rattle.mphr.specs.Lines.{WritesTextLine, WritesNumberLine, WritesTimeLine};
 
 fn text_on(k: usize, text: &[u8]) -> bool
@@ -87,16 +87,24 @@ fn is_long(d: Kind) -> bool
     }
 }
 
+// The first n bytes of the padded name of field k, at the start of the room.
+pub(crate) fn put_name(room: &mut [u8], k: usize, n: usize)
+    requires { ⌜ (k < 72) × (n ≤ 30) × (n ≤ length (now room)) ⌝ }
+    ensures { λ r. ⌜ now (room .exit) ≡ putName (now (room .entry)) k n ⌝ }
+{
+    let mut i: usize = n;
+    while 0 < i {
+        i -= 1;
+        room[i] = name_byte(30 * k + i);
+    }
+}
+
 // The name padded to 30, "= ", and the line feed after w bytes of value.
 fn put_frame(room: &mut [u8], k: usize, w: usize)
     requires { ⌜ (k < 72) × (w + 33 ≤ length (now room)) ⌝ }
     ensures { λ r. ⌜ now (room .exit) ≡ putFrame k w (now (room .entry)) ⌝ }
 {
-    let mut i: usize = 30;
-    while 0 < i {
-        i -= 1;
-        room[i] = name_byte(30 * k + i);
-    }
+    put_name(room, k, 30);
     room[30] = 61;
     room[31] = 32;
     room[32 + w] = 10;

@@ -1,5 +1,4 @@
-pub mod Told
-pub mod Given
+pub mod Values
 pub mod Judging
 pub mod Fields
-pub mod Leaves
+pub mod Lines

@@ -1,20 +1,24 @@
-// The field queries, the name lookup and the ground point.
-use crate::put::put_general;
+// The field queries, the fields by name and by number, and the ground point.
 use crate::put::put_number;
-use crate::put::put_one;
-use crate::put::put4;
-use crate::put::refuse4;
-use crate::put::refuse12;
+use meter::integer::Written;
 use mphr::layout::FieldPlace;
+use mphr::layout::Place;
 use mphr::names::FieldNumber;
 use query::FieldAnswer;
 use query::NumberAnswer;
 use query::PointAnswer;
 use query::TimeAnswer;
 use text::Kind;
+use told::put::put_general;
+use told::put::put_one;
+use told::put::put4;
+use told::put::refuse4;
+use told::put::refuse6;
+use told::put::refuse12;
 ghost use mathlib.Core.Path.{_≡_};
 ghost use Rattle.warpladle.specs.Fields.{numberSaid, NumberTold, longKind, longField, timeSaid, TimeTold, textSaid, TextTold};
-ghost use Rattle.warpladle.specs.Fields.{fieldSaid, FieldTold, pointSaid, pair, pairOf, PointTold};
+ghost use Rattle.warpladle.specs.Fields.{fieldSaid, FieldTold, kindNumber, field6, describedSaid, DescribedTold};
+ghost use Rattle.warpladle.specs.Fields.{pointSaid, pair, pairOf, PointTold};
 ghost use Rattle.query.specs.Query.{TimeIs};
 
 fn put_number_answer(answer: &mut [u64; 4], found: NumberAnswer)
@@ -121,6 +125,48 @@ pub extern "C" fn wl_field_named(name: &[u8], answer: &mut [u64; 4])
     put_field(answer, mphr::names::field_named(name));
 }
 
+fn kind_number(kind: Kind) -> u64
+    ensures { λ r. ⌜ r ≡ kindNumber kind ⌝ }
+{
+    match kind {
+        Kind::Text => 0,
+        Kind::Unsigned => 1,
+        Kind::Count => 2,
+        Kind::Signed => 3,
+        Kind::Time => 4,
+        Kind::LongTime => 5,
+    }
+}
+
+fn put_place(answer: &mut [u64; 6], place: Place, n: usize)
+    ensures { λ _. ⌜ now (answer .exit) ≡ field6 place n ⌝ }
+{
+    let kind = place.kind;
+    let k = kind_number(kind);
+    *answer = [0, 0, place.start as u64, place.width as u64, k, n as u64];
+}
+
+fn put_described(answer: &mut [u64; 6], found: FieldPlace, named: Written)
+    ensures { λ _. ⌜ now (answer .exit) ≡ describedSaid (found, named) ⌝ }
+{
+    match found {
+        FieldPlace::Place(p) => match named {
+            Written::Bytes(n) => put_place(answer, p, n),
+            Written::Refused(r) => refuse6(answer, r),
+        },
+        FieldPlace::Refused(r) => refuse6(answer, r),
+    }
+}
+
+// Field k: 0, 0, where its line starts, its width, its kind, the bytes of its name, which stands at the start of the room.
+#[no_mangle]
+pub extern "C" fn wl_field(k: usize, name: &mut [u8], answer: &mut [u64; 6])
+    ensures { λ _. ⌜ DescribedTold k (now (name .entry)) (now (name .exit)) (now (answer .exit)) ⌝ }
+{
+    let named = mphr::names::write_name(name, k);
+    put_described(answer, mphr::layout::field_place(k), named);
+}
+
 fn put_pair(point: &mut [f64; 2], latitude: f64, longitude: f64)
     ensures { λ _. ⌜ now (point .exit) ≡ pair latitude longitude ⌝ }
 {
@@ -151,6 +197,6 @@ pub extern "C" fn wl_ground_point(
 )
     ensures { λ _. ⌜ PointTold (now (bytes .entry)) which (now (point .entry)) (now (point .exit)) (now (answer .exit)) ⌝ }
 {
-    let found = query::ground_point(bytes, crate::given::is_set(which));
+    let found = query::ground_point(bytes, told::given::is_set(which));
     put_point(answer, point, found);
 }

@@ -1,37 +1,9 @@
-// Values that a host hands in as numbers: a flag that says whether the value is defined, and its parts.
-use meter::general::General;
-use meter::general::Moment;
-use meter::scaled::Scaled;
-use meter::time::Time;
+// The number of a field that a host hands in; the other values are those of `told`.
 use text::Number;
+use told::given::is_set;
 ghost use mathlib.Core.Path.{_≡_};
-ghost use Rattle.warpladle.specs.Given.{isSet, timeGiven, scaledGiven, numberGiven, generalGiven};
-
-pub(crate) fn is_set(flag: u8) -> bool
-    ensures { λ r. ⌜ r ≡ isSet flag ⌝ }
-{
-    flag != 0
-}
-
-pub(crate) fn time(defined: u8, day: u16, milli: u32) -> Time
-    ensures { λ r. ⌜ r ≡ timeGiven (isSet defined) day milli ⌝ }
-{
-    if is_set(defined) {
-        Time::At { day, milli }
-    } else {
-        Time::Undefined
-    }
-}
-
-pub(crate) fn scaled(defined: u8, integer: i64, scale: i8) -> Scaled
-    ensures { λ r. ⌜ r ≡ scaledGiven (isSet defined) integer scale ⌝ }
-{
-    if is_set(defined) {
-        Scaled::Number { integer, scale }
-    } else {
-        Scaled::Undefined
-    }
-}
+ghost use Rattle.told.specs.Given.{isSet};
+ghost use Rattle.warpladle.specs.Values.{numberGiven};
 
 pub(crate) fn number(defined: u8, value: i64) -> Number
     ensures { λ r. ⌜ r ≡ numberGiven (isSet defined) value ⌝ }
@@ -40,15 +12,5 @@ pub(crate) fn number(defined: u8, value: i64) -> Number
         Number::Whole(value)
     } else {
         Number::Undefined
-    }
-}
-
-pub(crate) fn general(defined: u8, moment: Moment) -> General
-    ensures { λ r. ⌜ r ≡ generalGiven (isSet defined) moment ⌝ }
-{
-    if is_set(defined) {
-        General::At(moment)
-    } else {
-        General::Undefined
     }
 }

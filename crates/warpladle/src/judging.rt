@@ -1,20 +1,22 @@
 // The judges, the record query and the listing.
 use crate::put::put_header;
-use crate::put::put_one;
-use crate::put::put4;
-use crate::put::refuse4;
-use crate::put::refuse16;
 use finish::Finished;
 use finish::judge_finished;
 use judge::arrival::Arrival;
+use judge::arrival::Extent;
 use judge::arrival::judge_arrival;
+use judge::arrival::judge_extent;
 use listing::Listed;
 use listing::list_product;
 use query::RecordAnswer;
 use query::record_at;
+use told::put::put_one;
+use told::put::put4;
+use told::put::refuse4;
+use told::put::refuse16;
 ghost use mathlib.Core.Path.{_≡_};
 ghost use Rattle.warpladle.specs.Judging.{arrivalSaid, ArrivalTold, finishedSaid, FinishedTold, recordSaid, RecordTold};
-ghost use Rattle.warpladle.specs.Judging.{listedSaid, ListingTold};
+ghost use Rattle.warpladle.specs.Judging.{extentSaid, ExtentTold, listedSaid, ListingTold};
 
 fn put_arrival(answer: &mut [u64; 4], judged: Arrival)
     ensures { λ _. ⌜ now (answer .exit) ≡ arrivalSaid judged ⌝ }
@@ -31,6 +33,24 @@ pub extern "C" fn wl_arrival(bytes: &[u8], answer: &mut [u64; 4])
     ensures { λ _. ⌜ ArrivalTold (now (bytes .entry)) (now (answer .exit)) ⌝ }
 {
     put_arrival(answer, judge_arrival(bytes));
+}
+
+fn put_extent(answer: &mut [u64; 4], extent: Extent)
+    ensures { λ _. ⌜ now (answer .exit) ≡ extentSaid extent ⌝ }
+{
+    match extent {
+        Extent::Part => put4(answer, 0, 0, 0, 0),
+        Extent::Entire { count } => put4(answer, 0, 0, 1, count as u64),
+        Extent::Refused(r) => refuse4(answer, r),
+    }
+}
+
+// Whether all of a product has come: 0, 0, 1, the count where it has; 0, 0, 0, 0 where a part has.
+#[no_mangle]
+pub extern "C" fn wl_extent(bytes: &[u8], answer: &mut [u64; 4])
+    ensures { λ _. ⌜ ExtentTold (now (bytes .entry)) (now (answer .exit)) ⌝ }
+{
+    put_extent(answer, judge_extent(bytes));
 }
 
 fn put_finished(answer: &mut [u64; 4], judged: Finished)

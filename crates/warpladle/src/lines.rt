@@ -1,14 +1,15 @@
 // The header's reader and writer, and the writers of the main header's lines.
 use crate::put::put_header;
-use crate::put::put_written;
-use crate::put::refuse16;
 use calendar::Date;
 use meter::general::Moment;
 use record::header::Header;
 use record::header::HeaderRead;
+use told::put::put_written;
+use told::put::refuse16;
 ghost use mathlib.Core.Path.{_≡_};
-ghost use Rattle.warpladle.specs.Given.{isSet, timeGiven, numberGiven, momentGiven, generalGiven, headerGiven};
-ghost use Rattle.warpladle.specs.Leaves.{headerSaid, HeaderTold, WriteHeaderTold, TextLineTold, NumberLineTold, TimeLineTold};
+ghost use Rattle.told.specs.Given.{isSet, timeGiven, momentGiven, generalGiven};
+ghost use Rattle.warpladle.specs.Values.{numberGiven, headerGiven};
+ghost use Rattle.warpladle.specs.Lines.{headerSaid, HeaderTold, WriteHeaderTold, TextLineTold, NumberLineTold, TimeLineTold};
 
 fn put_header_read(answer: &mut [u64; 16], at: usize, found: HeaderRead)
     ensures { λ _. ⌜ now (answer .exit) ≡ headerSaid at found ⌝ }
@@ -50,8 +51,8 @@ pub extern "C" fn wl_write_header(
         (timeGiven (isSet «stop_defined») «stop_day» «stop_milli»))
         (now (room .exit)) (now (answer .exit)) ⌝ }
 {
-    let start = crate::given::time(start_defined, start_day, start_milli);
-    let stop = crate::given::time(stop_defined, stop_day, stop_milli);
+    let start = told::given::time(start_defined, start_day, start_milli);
+    let stop = told::given::time(stop_defined, stop_day, stop_milli);
     let header = Header {
         class,
         group,
@@ -114,6 +115,6 @@ pub extern "C" fn wl_write_time_line(
         second,
         milli,
     };
-    let t = crate::given::general(defined, moment);
+    let t = told::given::general(defined, moment);
     put_written(answer, mphr::lines::write_time_line(room, k, t));
 }

@@ -1,90 +1,46 @@
--- `mphr::lines::put_frame` meets its contract. The invariant: to put what is left of the name into what stands there gives the whole name. Assumes nothing.
-use Rattle.mphr.proofs.WritingLaws.{name-step, name-none, name-length}
-use Rattle.mphr.specs.Lines.{putName, putFrame}
+-- `mphr::lines::put_frame` meets its contract: the name, and three bytes stored one after the other. Assumes nothing.
+use Rattle.mphr.specs.Lines.{putFrame}
 use mathlib.Core.List.{List}
-use lib.ListN.{length, length-set, set}
-use denote.Ref.{now}
-use Prim.Native.Nat.{ℕ, _+_, _*_, _-_, _≤_, _<_}
+use mathlib.Core.Path.{_≡_, ap}
+use Prim.Native.Nat.{ℕ, _+_}
+use lib.ListN.{length-set, set}
 use native.Mathlib.Omega.{arith}
-use mathlib.Core.Path.{_≡_, refl, sym, ap, _∙_}
+use borrow.Author.Needs.{needs}
 use Rattle.mphr.proofs.lines.put_frame.Statement.{statement}
 use Rattle.mphr.proofs.lines.put_frame.Tie as tie
 
-abbrev Inv-loop : tie.InvT-loop
-Inv-loop room₀ k w i₀ room i = (i ≤ 30) × (length room ≡ length room₀) × (putName room k i ≡ putName room₀ k 30)
+put-name-requires : tie.Need-put-name-requires
+put-name-requires c κs = search needs
 
-abbrev μ-loop : tie.MeasureT-loop
-μ-loop room₀ k w i₀ room i = i
+slice-write-room : tie.Need-slice-write-room
+slice-write-room c = search needs
 
-loop-holds : tie.Need-loop-holds Inv-loop μ-loop
-loop-holds c = (omega arith, refl, refl)
+slice-write-room-2 : tie.Need-slice-write-room-2
+slice-write-room-2 c = simp length-set (omega arith)
 
-sub-i : tie.Need-sub-i Inv-loop μ-loop
-sub-i c = omega arith
+add-room : tie.Need-add-room
+add-room c = search needs
 
-mul-name-byte : tie.Need-mul-name-byte Inv-loop μ-loop
-mul-name-byte c = omega arith
-
-add-name-byte : tie.Need-add-name-byte Inv-loop μ-loop
-add-name-byte c = omega arith
-
-name-byte-requires : tie.Need-name-byte-requires Inv-loop μ-loop
-name-byte-requires c κs = omega arith
-
-slice-write-room : tie.Need-slice-write-room Inv-loop μ-loop
-slice-write-room c = omega arith
-
-loop-less : tie.Need-loop-less Inv-loop μ-loop
-loop-less c = omega arith
-
-loop-again : tie.Need-loop-again Inv-loop μ-loop
-loop-again c =
-    let l = c .before .before .loop in
-    let s = c .before .before .before .before in (
-      omega arith,
-      simp length-set (l .inv .1),
-      ap (λ (b : ℕ). putName (set (l .room) (l .i - 1) b) (s .args .k) (l .i - 1)) (c .name-byte .ensures) ∙ sym (name-step (l .room) (s .args .k) (l .i) (omega arith)) ∙ l .inv .2,
-    )
-
-slice-write-room-2 : tie.Need-slice-write-room-2 Inv-loop μ-loop
-slice-write-room-2 c = omega arith
-
-slice-write-room-3 : tie.Need-slice-write-room-3 Inv-loop μ-loop
+slice-write-room-3 : tie.Need-slice-write-room-3
 slice-write-room-3 c = simp length-set (omega arith)
 
-add-room : tie.Need-add-room Inv-loop μ-loop
-add-room c = omega arith
+same-length : tie.Need-same-length
+same-length c = search needs
 
-slice-write-room-4 : tie.Need-slice-write-room-4 Inv-loop μ-loop
-slice-write-room-4 c = simp length-set (omega arith)
-
-same-length : tie.Need-same-length Inv-loop μ-loop
-same-length c = simp length-set (c .before .loop .inv .1)
-
-returns : tie.Need-returns Inv-loop μ-loop
+returns : tie.Need-returns
 unfolding putFrame
 returns c =
-    let l = c .before .loop in
-    let s = c .before .before .before in
-    ap (λ (b : List ℕ). set (set (set b 30 61) 31 32) (32 + s .args .w) 10) (sym (name-none (l .room) (s .args .k) (l .i) (omega arith)) ∙ l .inv .2)
+    let s = c .before .before .before .before .before in
+    ap (λ (b : List ℕ). set (set (set b 30 61) 31 32) (32 + s .args .w) 10) (c .before .before .put-name .ensures)
 
 pub put-frame-spec : {M : Type 1} → statement M
 put-frame-spec =
     tie.close
     (tie.spec
-    Inv-loop
-    μ-loop
-    loop-holds
-    sub-i
-    mul-name-byte
-    add-name-byte
-    name-byte-requires
+    put-name-requires
     slice-write-room
-    loop-less
-    loop-again
     slice-write-room-2
-    slice-write-room-3
     add-room
-    slice-write-room-4
+    slice-write-room-3
     same-length
     returns)

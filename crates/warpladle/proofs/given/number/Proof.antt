@@ -4,7 +4,7 @@ use mathlib.Core.Bool.{Bool}
 use mir.Syntax.{w64}
 use mir.ValLaws.{toZ-ofZ}
 use Rattle.text.specs.declared.Number.the-variants as N
-use Rattle.warpladle.specs.Given.{numberGiven}
+use Rattle.warpladle.specs.Values.{numberGiven}
 use borrow.Author.Needs.{needs}
 use Rattle.warpladle.proofs.given.number.Statement.{statement}
 use Rattle.warpladle.proofs.given.number.Tie as tie

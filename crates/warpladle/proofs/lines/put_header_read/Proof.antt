@@ -1,6 +1,6 @@
 -- `warpladle::lines::put_header_read` meets its contract: each variant as it is told. Assumes nothing.
 use mathlib.Core.Path.{_≡_, sym, ap, _∙_, subst}
-use Rattle.warpladle.specs.Leaves.{headerSaid}
+use Rattle.warpladle.specs.Lines.{headerSaid}
 use borrow.Author.Needs.{needs}
 use Rattle.warpladle.proofs.lines.put_header_read.Statement.{statement}
 use Rattle.warpladle.proofs.lines.put_header_read.Tie as tie

@@ -6,8 +6,9 @@ use Prim.Native.Nat.{ℕ}
 use Rattle.meter.specs.declared.time.Time.{Time}
 use Rattle.record.specs.declared.header.Header.{Header}
 use Rattle.record.specs.Header.{WritesHeader}
-use Rattle.warpladle.specs.Given.{isSet, timeGiven, headerGiven}
-use Rattle.warpladle.proofs.Laws.{moved}
+use Rattle.told.specs.Given.{isSet, timeGiven}
+use Rattle.warpladle.specs.Values.{headerGiven}
+use Rattle.told.proofs.Laws.{moved}
 use borrow.Author.Needs.{needs}
 use Rattle.warpladle.proofs.lines.wl_write_header.Statement.{statement}
 use Rattle.warpladle.proofs.lines.wl_write_header.Tie as tie

@@ -4,9 +4,10 @@ use mathlib.Core.Path.{_≡_, sym, ap, _∙_, subst}
 use mathlib.Core.List.{List}
 use Prim.Native.Nat.{ℕ}
 use Rattle.text.specs.declared.Number.{Number}
-use Rattle.warpladle.specs.Given.{isSet}
+use Rattle.told.specs.Given.{isSet}
 use Rattle.mphr.specs.Lines.{WritesNumberLine}
-use Rattle.warpladle.proofs.Laws.{moved, number-given}
+use Rattle.told.proofs.Laws.{moved}
+use Rattle.warpladle.proofs.Laws.{number-given}
 use borrow.Author.Needs.{needs}
 use Rattle.warpladle.proofs.lines.wl_write_number_line.Statement.{statement}
 use Rattle.warpladle.proofs.lines.wl_write_number_line.Tie as tie

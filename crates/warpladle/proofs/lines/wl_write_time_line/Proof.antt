@@ -5,7 +5,7 @@ use mathlib.Core.List.{List}
 use Prim.Native.Nat.{ℕ}
 use Rattle.meter.specs.declared.general.General.{General}
 use Rattle.mphr.specs.Lines.{WritesTimeLine}
-use Rattle.warpladle.proofs.Laws.{moved}
+use Rattle.told.proofs.Laws.{moved}
 use borrow.Author.Needs.{needs}
 use Rattle.warpladle.proofs.lines.wl_write_time_line.Statement.{statement}
 use Rattle.warpladle.proofs.lines.wl_write_time_line.Tie as tie

@@ -1,7 +1,8 @@
 -- `warpladle::put::put_header` meets its contract: the header's numbers with those of its two times. Assumes nothing.
 use mathlib.Core.Path.{_≡_, sym, ap, _∙_, subst}
-use Rattle.warpladle.specs.Told.{timeWords, headed16}
-use Rattle.warpladle.specs.declared.put.TimeWords.{TimeWords}
+use Rattle.told.specs.Told.{timeWords}
+use Rattle.warpladle.specs.Values.{headed16}
+use Rattle.told.specs.declared.put.TimeWords.{TimeWords}
 use borrow.Author.Needs.{needs}
 use Rattle.warpladle.proofs.put.put_header.Statement.{statement}
 use Rattle.warpladle.proofs.put.put_header.Tie as tie

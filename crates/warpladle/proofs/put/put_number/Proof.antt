@@ -4,7 +4,8 @@ use Prim.Native.Nat.{ℕ}
 use mir.Syntax.{w64}
 use mir.ValLaws.{toZ-ofZ}
 use Rattle.meter.specs.Integer.{wordOf}
-use Rattle.warpladle.specs.Told.{four, number4}
+use Rattle.told.specs.Told.{four}
+use Rattle.warpladle.specs.Values.{number4}
 use borrow.Author.Needs.{needs}
 use Rattle.warpladle.proofs.put.put_number.Statement.{statement}
 use Rattle.warpladle.proofs.put.put_number.Tie as tie

@@ -1,0 +1,49 @@
+-- `mphr::names::write_name` meets its contract: 22, then 18, then the bytes of the name and what lay beyond them (WritingLaws). Assumes nothing.
+use Prim.Native.Nat.{_<_}
+use native.Mathlib.Omega.{arith}
+use borrow.Author.Needs.{needs}
+use denote.Ref.{now}
+use Rattle.mphr.proofs.NameLaws.{most}
+use Rattle.mphr.proofs.WritingLaws.{name-unfit, name-small, name-done}
+use Rattle.mphr.proofs.names.write_name.Statement.{statement}
+use Rattle.mphr.proofs.names.write_name.Tie as tie
+
+returns : tie.Need-returns
+returns c = let s = c .before .before in name-unfit (now (s .args .room)) (s .args .k) (c .if1 .taken)
+
+name-width-requires : tie.Need-name-width-requires
+name-width-requires c κs = search needs
+
+returns-2 : tie.Need-returns-2
+returns-2 c =
+    let s = c .before .before .before .before in
+    name-small (now (s .args .room)) (s .args .k) (c .before .name-width .result) (c .before .before .if1 .left) (c .before .name-width .ensures) (c .if2 .taken)
+
+put-name-requires : tie.Need-put-name-requires
+put-name-requires c κs =
+    let w = c .before .before in
+    let s = w .before .before .before in
+    let k : s .args .k < 72 = omega arith in
+    (k, omega (arith, w .name-width .ensures, most (s .args .k) k), c .before .if2 .left)
+
+same-length : tie.Need-same-length
+same-length c = search needs
+
+returns-3 : tie.Need-returns-3
+returns-3 c =
+    let p = c .before .before in
+    let e = p .before .before in
+    let w = e .before in
+    let s = w .before .before .before in
+    name-done (now (s .args .room)) (p .put-name .last .0) (s .args .k) (w .name-width .result) (w .before .if1 .left) (w .name-width .ensures) (e .if2 .left) (p .put-name .ensures)
+
+pub write-name-spec : {M : Type 1} → statement M
+write-name-spec =
+    tie.close
+    (tie.spec
+    returns
+    name-width-requires
+    returns-2
+    put-name-requires
+    same-length
+    returns-3)

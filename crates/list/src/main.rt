@@ -1,4 +1,5 @@
 // Prints the listing of the product in the file that its argument names, or on standard input; a refusal is one line.
+// What cannot be read or written is a line on standard error: a program has no exit status here (docs/DECISIONS.md, F30).
 use calendar::Refusal;
 use libc::STDERR_FILENO;
 use libc::STDIN_FILENO;
@@ -6,6 +7,16 @@ use libc::STDOUT_FILENO;
 use listing::Listed;
 ghost use lib.ListN.{length};
 ghost use Rattle.list.specs.Reading.{ReadIs};
+
+const HELP: [u8; 589] = *b"\
+usage: list [FILE]\n\
+Lists the records of the EPS native product in FILE, or on standard input: a line with their count,\n\
+then a line for each record with its start, class, group, subclass, version and size.\n\
+A product that is refused prints one line, `refused`, the number and the place.\n\
+It takes 65,536 bytes, the limit that was asked for; a longer product is `refused 23 65536`. For a\n\
+product of any size link libwarpladle.a (tools/archive): wl_finished gives the start of each record,\n\
+and wl_read_header reads its header.\n\
+README.md has the numbers, the places, the classes and the groups.\n";
 
 pub enum Input {
     Bytes(usize),
@@ -32,13 +43,17 @@ fn read_input(fd: i32, bytes: &mut [u8]) -> Input
     Input::Bytes(done)
 }
 
+fn print(bytes: &[u8]) {
+    if !io::write_all(STDOUT_FILENO, bytes) {
+        os::fail(b"list: standard output");
+    }
+}
+
 // The room is enough for each refusal (listing's law `line-enough`).
 fn print_refusal(r: Refusal) {
     let mut room = [0u8; 64];
     match listing::refusal_line(r, &mut room) {
-        Listed::Bytes(n) => {
-            io::write_all(STDOUT_FILENO, &room[..n]);
-        }
+        Listed::Bytes(n) => print(&room[..n]),
         Listed::Refused(_) => {}
     }
 }
@@ -47,9 +62,7 @@ fn print_refusal(r: Refusal) {
 fn print_list(bytes: &[u8]) {
     let mut room = [0u8; 131072];
     match listing::list_product(bytes, &mut room) {
-        Listed::Bytes(n) => {
-            io::write_all(STDOUT_FILENO, &room[..n]);
-        }
+        Listed::Bytes(n) => print(&room[..n]),
         Listed::Refused(r) => print_refusal(r),
     }
 }
@@ -73,6 +86,21 @@ fn list_file(name: &[u8]) {
     libc::close(fd);
 }
 
+fn is_help(word: &[u8]) -> bool {
+    let help = b"--help";
+    if word.len() != 6 {
+        return false;
+    }
+    let mut i: usize = 0;
+    while i < 6 {
+        if word[i] != help[i] {
+            return false;
+        }
+        i += 1;
+    }
+    true
+}
+
 fn main() {
     let count = os::arg_count();
     if count < 2 {
@@ -87,6 +115,10 @@ fn main() {
     let length = os::arg(1, &mut name);
     if os::errno() != 0 {
         os::fail(b"list: the file's name");
+        return;
+    }
+    if is_help(&name[..length]) {
+        print(&HELP);
         return;
     }
     list_file(&name[..length]);

@@ -25,11 +25,11 @@ enum-known-n c = search needs
 array-share-prefix-room : tie.Need-array-share-prefix-room
 array-share-prefix-room c = inside c
 
-slice-aggregate-write-all : tie.Need-slice-aggregate-write-all
-slice-aggregate-write-all c = sym (length-take-le _ _ (inside (c .before)))
+slice-aggregate-print : tie.Need-slice-aggregate-print
+slice-aggregate-print c = sym (length-take-le _ _ (inside (c .before)))
 
-write-all-requires : tie.Need-write-all-requires
-write-all-requires c κs = search needs
+print-requires : tie.Need-print-requires
+print-requires c κs = search needs
 
 enum-told : tie.Need-enum-told
 enum-told c = search needs
@@ -48,8 +48,8 @@ print-refusal-spec =
     refusal-line-requires
     enum-known-n
     array-share-prefix-room
-    slice-aggregate-write-all
-    write-all-requires
+    slice-aggregate-print
+    print-requires
     enum-told
     returns
     returns-2)

@@ -1,13 +1,27 @@
 /*
- * Warpladle: a proved reader of EPS native products. Link target/staticlib/libwarpladle.a (`rt staticlib warpladle`).
+ * Warpladle: a proved reader of EPS native products (Metop and NOAA polar orbiters). `tools/archive` writes two archives for x86-64, which need
+ * nothing but the C library:
+ *     target/libwarpladle.a   every function of this header
+ *     target/libhandheld.a    those under "numbers, times and dates" alone, for meters
  *
- * Every function is total: it asks nothing of the bytes, and answers in the array that it is lent.
- * answer[0] is 0, or the number of a refusal (01, "Numbers we answer with"); then answer[1] is the refusal's place, and the rest are zeros.
- * Of an answer that is no refusal answer[1] is 0, except in wl_arrival; the values follow. A value that is undefined is a 0 before zeros, and
- * one that is defined is a 1 before its parts. A negative number stands in two's complement: cast it to int64_t.
+ * A product is a main header (MPHR) of 3,307 bytes and then records, one after the other, each with a header of 20 bytes. Every number in it is
+ * big-endian. A record's header: byte 0 the class, 1 the instrument group, 2 the subclass, 3 the version, 4 to 7 the record's size with its header,
+ * 8 to 13 its start time, 14 to 19 its stop time. The main header has 72 lines, each a name padded with spaces to 30 bytes, "= ", a value of fixed
+ * width and a line feed. What an instrument's measurements mean is not ours.
+ *
+ * EVERY FUNCTION IS TOTAL: it asks nothing of the bytes and numbers, and answers in the array that it is lent, whose size the prototype says.
+ *   answer[0]   0, or the number of a refusal (enum wl_refusal)
+ *   answer[1]   of a refusal its place; else 0, except in wl_arrival
+ *   the rest    the values, or of a refusal zeros
+ * A value that may be undefined is a 1 before its parts, or a 0 before zeros. A negative number stands in two's complement: cast it to int64_t.
  * A flag that is handed in (defined, signed_, which) is 0 or not 0; where `defined` is 0 the parts after it are not looked at.
- * A pointer with a length may be any valid pointer where the length is 0, but not NULL. What is lent to be written must not overlap with
- * anything else that is lent. A refusal writes nothing into a room, an index, a point or a value.
+ * A pointer with a length may be any valid pointer where the length is 0, but not NULL. What is lent to be written must not overlap with anything
+ * else that is lent. A refusal writes nothing into a room, an index, a point or a value; what lies beyond what is written is kept.
+ *
+ * WHAT COSTS WHAT. The judges read the main header's 3,307 bytes once, and of the other records the header and a pointer's 7 bytes alone, so a product
+ * of 32 MiB in 100,000 records takes milliseconds. wl_record judges the arrival anew and walks to record k at each call: for all records of a product
+ * ask wl_finished once and wl_read_header at each start. A field query judges the main header anew at each call, some microseconds; the ground point
+ * twice. Nothing allocates, and no call keeps anything of an earlier one.
  */
 #ifndef WARPLADLE_H
 #define WARPLADLE_H
@@ -19,33 +33,185 @@
 extern "C" {
 #endif
 
+/* ---- refusals: the number, and what answer[1] then is. s is a record's start, D the size that the product declares */
+enum wl_refusal {
+    WL_ACCEPTED = 0,
+    WL_FIRST_HEADER = 1,    /* the first header is not class 1, group 0, subclass 0, size 3307; 0 */
+    WL_LINE = 2,            /* a line's name, "= " or line feed; the line's start */
+    WL_VALUE = 3,           /* a value that is not of its field's kind; the value's start */
+    WL_DECLARED_SIZE = 4,   /* D under 3,307 or over 2,147,483,647; 1485 */
+    WL_TOTALS = 5,          /* TOTAL_MPHR not 1, TOTAL_SPHR over 1, or TOTAL_RECORDS not the sum of the others; 2675 */
+    WL_BYTES_LEFT = 6,      /* 1 to 19 bytes of D are left where a record should start; s */
+    WL_UNKNOWN_KIND = 7,    /* an unknown class or group; s */
+    WL_ORDER = 8,           /* a class out of the sections' order; s */
+    WL_RECORD_SIZE = 9,     /* a size under 20 or past D, or of a pointer record other than 27; s */
+    WL_RECORD_TIMES = 10,   /* a bad time, or both defined and the start after the stop; s */
+    WL_TOO_MANY = 11,       /* more records of a class than its total; s */
+    WL_TARGET = 12,         /* a pointer's target class not 4 to 8, or its offset before the pointer's end or less than 20 before D; s */
+    WL_POINTS_INSIDE = 13,  /* a pointer into the middle of a record; the pointer record's start */
+    WL_POINTS_AT_OTHER = 14, /* a pointer at a record of another class, group or subclass; the pointer record's start */
+    WL_TOO_FEW = 15,        /* fewer records of a class than its total; D */
+    WL_BEYOND = 16,         /* bytes beyond D; D */
+    WL_UNFINISHED = 17,     /* finished short of 3,307 bytes or of D, or a field asked of a shorter main header; the length */
+    WL_ROOM = 18,           /* the lent room is too small; the places or bytes needed */
+    WL_NO_RECORD = 19,      /* no such record yet; the records counted */
+    WL_OUTSIDE = 20,        /* the part to read is outside the lent bytes; their length */
+    WL_MALFORMED = 21,      /* a number, time, date or header is malformed or outside our limits; 0 */
+    WL_NO_FIELD = 22,       /* no such field, another kind, or a value that does not fit its line; 0 */
+    WL_LISTING_LIMIT = 23   /* a listing of more than 65,536 bytes; 65536 */
+};
+
+/* ---- sizes of the answers */
+enum {
+    WL_ANSWER = 4,  /* most functions */
+    WL_TIME = 6,    /* wl_read_time, wl_text_time */
+    WL_SCALED = 6,  /* wl_read_scaled */
+    WL_DATE = 6,    /* wl_date_of */
+    WL_FIELD = 6,   /* wl_field */
+    WL_MOMENT = 12, /* wl_time_field */
+    WL_HEADER = 16  /* wl_record, wl_read_header */
+};
+
+/* ---- classes of records. They come in the order MPHR, SPHR, IPRs, GEADRs and GIADRs mixed, VEADRs and VIADRs mixed, MDRs */
+enum wl_class {
+    WL_MPHR = 1,  /* main product header, the first 3,307 bytes */
+    WL_SPHR = 2,  /* secondary product header, at most one */
+    WL_IPR = 3,   /* internal pointer: 27 bytes, with a target's class, group, subclass and offset from the product's first byte */
+    WL_GEADR = 4, /* global external auxiliary data */
+    WL_GIADR = 5, /* global internal auxiliary data */
+    WL_VEADR = 6, /* variable external auxiliary data */
+    WL_VIADR = 7, /* variable internal auxiliary data */
+    WL_MDR = 8    /* measurement data; of group 13 a dummy for data that are missing */
+};
+
+/* ---- instrument groups; no other number is known */
+enum wl_group {
+    WL_GENERIC = 0, WL_AMSU_A = 1, WL_ASCAT = 2, WL_ATOVS = 3, WL_AVHRR_3 = 4, WL_GOME = 5, WL_GRAS = 6, WL_HIRS_4 = 7, WL_IASI = 8, WL_MHS = 9,
+    WL_SEM = 10, WL_ADCS = 11, WL_SBUV = 12, WL_DUMMY = 13, WL_IASI_L2 = 15, WL_ARCHIVE = 99
+};
+
+/* ---- kinds of fields */
+enum wl_kind {
+    WL_KIND_TEXT = 0,      /* bytes 32 to 126, all of the width: padding is kept. There is no undefined text */
+    WL_KIND_UNSIGNED = 1,  /* spaces and digits; all x is undefined */
+    WL_KIND_COUNT = 2,     /* the same, and never undefined */
+    WL_KIND_SIGNED = 3,    /* the same with a sign; all x is undefined */
+    WL_KIND_TIME = 4,      /* YYYYMMDDHHMMSSZ; x's, with or without a Z at their end, are undefined */
+    WL_KIND_LONG_TIME = 5  /* the same with three digits of milliseconds before the Z */
+};
+
+/* ---- the fields of the main header: kind, width, unit. A field's number is its line's, from 0 */
+enum wl_field_number {
+    WL_FIELD_PRODUCT_NAME = 0,                /* text, 67 */
+    WL_FIELD_PARENT_PRODUCT_NAME_1,           /* text, 67 */
+    WL_FIELD_PARENT_PRODUCT_NAME_2,           /* text, 67 */
+    WL_FIELD_PARENT_PRODUCT_NAME_3,           /* text, 67 */
+    WL_FIELD_PARENT_PRODUCT_NAME_4,           /* text, 67 */
+    WL_FIELD_INSTRUMENT_ID,                   /* text, 4 */
+    WL_FIELD_INSTRUMENT_MODEL,                /* text, 3 */
+    WL_FIELD_PRODUCT_TYPE,                    /* text, 3 */
+    WL_FIELD_PROCESSING_LEVEL,                /* text, 2 */
+    WL_FIELD_SPACECRAFT_ID,                   /* text, 3 */
+    WL_FIELD_SENSING_START,                   /* time, 15 */
+    WL_FIELD_SENSING_END,                     /* time, 15 */
+    WL_FIELD_SENSING_START_THEORETICAL,       /* time, 15 */
+    WL_FIELD_SENSING_END_THEORETICAL,         /* time, 15 */
+    WL_FIELD_PROCESSING_CENTRE,               /* text, 4 */
+    WL_FIELD_PROCESSOR_MAJOR_VERSION,         /* unsigned, 5 */
+    WL_FIELD_PROCESSOR_MINOR_VERSION,         /* unsigned, 5 */
+    WL_FIELD_FORMAT_MAJOR_VERSION,            /* unsigned, 5 */
+    WL_FIELD_FORMAT_MINOR_VERSION,            /* unsigned, 5 */
+    WL_FIELD_PROCESSING_TIME_START,           /* time, 15 */
+    WL_FIELD_PROCESSING_TIME_END,             /* time, 15 */
+    WL_FIELD_PROCESSING_MODE,                 /* text, 1 */
+    WL_FIELD_DISPOSITION_MODE,                /* text, 1 */
+    WL_FIELD_RECEIVING_GROUND_STATION,        /* text, 3 */
+    WL_FIELD_RECEIVE_TIME_START,              /* time, 15 */
+    WL_FIELD_RECEIVE_TIME_END,                /* time, 15 */
+    WL_FIELD_ORBIT_START,                     /* unsigned, 5, since launch */
+    WL_FIELD_ORBIT_END,                       /* unsigned, 5, since launch */
+    WL_FIELD_ACTUAL_PRODUCT_SIZE,             /* count, 11, bytes */
+    WL_FIELD_STATE_VECTOR_TIME,               /* long time, 18 */
+    WL_FIELD_SEMI_MAJOR_AXIS,                 /* signed, 11, mm */
+    WL_FIELD_ECCENTRICITY,                    /* signed, 11, 0.000001 */
+    WL_FIELD_INCLINATION,                     /* signed, 11, 0.001 degree */
+    WL_FIELD_PERIGEE_ARGUMENT,                /* signed, 11, 0.001 degree */
+    WL_FIELD_RIGHT_ASCENSION,                 /* signed, 11, 0.001 degree */
+    WL_FIELD_MEAN_ANOMALY,                    /* signed, 11, 0.001 degree */
+    WL_FIELD_X_POSITION,                      /* signed, 11, mm */
+    WL_FIELD_Y_POSITION,                      /* signed, 11, mm */
+    WL_FIELD_Z_POSITION,                      /* signed, 11, mm */
+    WL_FIELD_X_VELOCITY,                      /* signed, 11, mm/s */
+    WL_FIELD_Y_VELOCITY,                      /* signed, 11, mm/s */
+    WL_FIELD_Z_VELOCITY,                      /* signed, 11, mm/s */
+    WL_FIELD_EARTH_SUN_DISTANCE_RATIO,        /* signed, 11, 0.000001 */
+    WL_FIELD_LOCATION_TOLERANCE_RADIAL,       /* signed, 11, m */
+    WL_FIELD_LOCATION_TOLERANCE_CROSSTRACK,   /* signed, 11, m */
+    WL_FIELD_LOCATION_TOLERANCE_ALONGTRACK,   /* signed, 11, m */
+    WL_FIELD_YAW_ERROR,                       /* signed, 11, 0.001 degree */
+    WL_FIELD_ROLL_ERROR,                      /* signed, 11, 0.001 degree */
+    WL_FIELD_PITCH_ERROR,                     /* signed, 11, 0.001 degree */
+    WL_FIELD_SUBSAT_LATITUDE_START,           /* signed, 11, 0.001 degree */
+    WL_FIELD_SUBSAT_LONGITUDE_START,          /* signed, 11, 0.001 degree */
+    WL_FIELD_SUBSAT_LATITUDE_END,             /* signed, 11, 0.001 degree */
+    WL_FIELD_SUBSAT_LONGITUDE_END,            /* signed, 11, 0.001 degree */
+    WL_FIELD_LEAP_SECOND,                     /* signed, 2, seconds: -1, 0 or 1 */
+    WL_FIELD_LEAP_SECOND_UTC,                 /* time, 15 */
+    WL_FIELD_TOTAL_RECORDS,                   /* count, 6, records */
+    WL_FIELD_TOTAL_MPHR,                      /* count, 6, records */
+    WL_FIELD_TOTAL_SPHR,                      /* count, 6, records */
+    WL_FIELD_TOTAL_IPR,                       /* count, 6, records */
+    WL_FIELD_TOTAL_GEADR,                     /* count, 6, records */
+    WL_FIELD_TOTAL_GIADR,                     /* count, 6, records */
+    WL_FIELD_TOTAL_VEADR,                     /* count, 6, records */
+    WL_FIELD_TOTAL_VIADR,                     /* count, 6, records */
+    WL_FIELD_TOTAL_MDR,                       /* count, 6, records */
+    WL_FIELD_COUNT_DEGRADED_INST_MDR,         /* unsigned, 6, MDRs */
+    WL_FIELD_COUNT_DEGRADED_PROC_MDR,         /* unsigned, 6, MDRs */
+    WL_FIELD_COUNT_DEGRADED_INST_MDR_BLOCKS,  /* unsigned, 6, blocks of MDRs */
+    WL_FIELD_COUNT_DEGRADED_PROC_MDR_BLOCKS,  /* unsigned, 6, blocks of MDRs */
+    WL_FIELD_DURATION_OF_PRODUCT,             /* unsigned, 8, ms */
+    WL_FIELD_MILLISECONDS_OF_DATA_PRESENT,    /* unsigned, 8, ms */
+    WL_FIELD_MILLISECONDS_OF_DATA_MISSING,    /* unsigned, 8, ms */
+    WL_FIELD_SUBSETTED_PRODUCT,               /* text, 1 */
+};
+
 /* ---- the judges */
 
-/* The bytes of a product that have come so far: 0, the end of the last whole record, the count of whole records, 0; or the refusal 1 to 16. */
+/* The bytes of a product that have come so far: 0, the end of the last whole record, the count of whole records, 0; or the refusal 1 to 16, which is
+ * final: every longer arrival of the same product is refused with the same number and place. */
 void wl_arrival(const uint8_t *bytes, size_t len, uint64_t answer[4]);
 
+/* Whether all of a product has come: 0, 0, 1, the count of records where it has; 0, 0, 0, 0 where a sound part has (wl_arrival counts that); or the
+ * refusal 1 to 16. An arrival of which this says 1 is accepted by wl_finished. */
+void wl_extent(const uint8_t *bytes, size_t len, uint64_t answer[4]);
+
 /* A finished product: 0, 0, the count of records, 0, with the records' starts at index[0] to index[count - 1] and the other places kept; or the
- * refusal 1 to 16, 17 with the length, or 18 with the count where `room`, the places of the index, is less. */
+ * refusal 1 to 16, 17 with the length, or 18 with the count where `room`, the places of the index, is less. Lend none to learn the count. */
 void wl_finished(const uint8_t *bytes, size_t len, uint32_t *index, size_t room, uint64_t answer[4]);
 
 /* ---- the queries of a product, arriving or whole */
 
 /* Record k, counted from 0: 0, 0, start, class, group, subclass, version, size, start time defined, day, millisecond, stop time defined, day,
- * millisecond, 0, 0; or the judge's refusal, or 19 with the records counted. */
+ * millisecond, 0, 0; or the refusal of wl_arrival, or 19 with the records counted. */
 void wl_record(const uint8_t *bytes, size_t len, size_t k, uint64_t answer[16]);
 
-/* Fields of the main header are numbered 0 to 71, in the order of their lines; wl_field_named finds one by its name. A query of a field judges the
- * first 3,307 bytes as an arrival and hands on its refusal (1 to 6, 10, 15); then 17 with the length where they have not all come; then 22 for no
- * such field or another kind. */
+/* A query of a field judges the first 3,307 bytes as an arrival and hands on its refusal (1 to 6, 10, 15); then 17 with the length where they have
+ * not all come; then 22 for no such field or another kind. */
 
-/* The number of field k: 0, 0, defined, value in two's complement; or a refusal. */
+/* The number of field k, of kind 1, 2 or 3: 0, 0, defined, value in two's complement; or a refusal. */
 void wl_number_field(const uint8_t *bytes, size_t len, size_t k, uint64_t answer[4]);
 
-/* The time of field k: 0, 0, defined, year, month, day, hour, minute, second, millisecond, 0, 0; or a refusal. The millisecond of a short time is 0. */
+/* The time of field k, of kind 4 or 5: 0, 0, defined, year, month, day, hour, minute, second, millisecond, 0, 0; or a refusal. The millisecond of a
+ * time that is not long is 0. */
 void wl_time_field(const uint8_t *bytes, size_t len, size_t k, uint64_t answer[12]);
 
-/* The text of field k: 0, 0, where its value starts in the bytes, its width; or a refusal. */
+/* The text of field k, of kind 0: 0, 0, where its value starts in the bytes, its width, padding and all; or a refusal. */
 void wl_text_field(const uint8_t *bytes, size_t len, size_t k, uint64_t answer[4]);
+
+/* Field k whatever the product: 0, 0, where its line starts (its value 32 bytes further on), the width of its value, its kind, and how many bytes its
+ * name has, which stands unpadded at the start of the room; or 22, 18 with those bytes. 30 are enough for every name. */
+void wl_field(size_t k, uint8_t *name, size_t room, uint64_t answer[6]);
 
 /* The field of a name, unpadded: 0, 0, its number, 0; or 22. */
 void wl_field_named(const uint8_t *name, size_t len, uint64_t answer[4]);
@@ -61,7 +227,41 @@ void wl_ground_point(const uint8_t *bytes, size_t len, uint8_t which, double poi
  * the bytes needed. The text has no zero at its end; a room of 131,072 bytes is always enough; of a refusal nothing is written. */
 void wl_listing(const uint8_t *bytes, size_t len, uint8_t *text, size_t room, uint64_t answer[4]);
 
-/* ---- times: a day counted from 1 January 2000 and a millisecond of that day */
+/* ---- record headers and lines of the main header */
+
+/* The header in the 20 bytes from `at` on: the numbers of wl_record, with `at` for the start; or 20, 21. */
+void wl_read_header(const uint8_t *bytes, size_t len, size_t at, uint64_t answer[16]);
+
+/* A header into the first 20 bytes of the room: 0, 0, 20, 0; or 21, 18 with 20. */
+void wl_write_header(uint8_t *room, size_t len, uint8_t class_, uint8_t group, uint8_t subclass, uint8_t version, uint32_t size,
+                     uint8_t start_defined, uint16_t start_day, uint32_t start_milli, uint8_t stop_defined, uint16_t stop_day,
+                     uint32_t stop_milli, uint64_t answer[4]);
+
+/* The whole line of field k with a text, of just the field's width, at the start of the room: 0, 0, the bytes of the line, 0; or 22, 18 with those
+ * bytes. */
+void wl_write_text_line(uint8_t *room, size_t len, size_t k, const uint8_t *text, size_t text_len, uint64_t answer[4]);
+
+/* The same with a number. */
+void wl_write_number_line(uint8_t *room, size_t len, size_t k, uint8_t defined, int64_t value, uint64_t answer[4]);
+
+/* The same with a time, whose millisecond must be 0 where the field is not long, or 22. */
+void wl_write_time_line(uint8_t *room, size_t len, size_t k, uint8_t defined, uint16_t year, uint8_t month, uint8_t day, uint8_t hour,
+                        uint8_t minute, uint8_t second, uint16_t milli, uint64_t answer[4]);
+
+/* ==== numbers, times and dates: these are in libhandheld.a too */
+
+/* ---- dates of the Gregorian calendar, years 0 to 9999; days are counted from 1 January 2000, which is day 0, to 6 June 2179, day 65535 */
+
+/* Whether it is a date: 0, 0, 1 or 0, 0. */
+void wl_is_date(uint16_t year, uint8_t month, uint8_t day, uint64_t answer[4]);
+
+/* The date of a day: 0, 0, year, month, day of the month, 0. It refuses nothing. */
+void wl_date_of(uint16_t day, uint64_t answer[6]);
+
+/* The day of a date: 0, 0, day, 0; or 21 for no date and for one before day 0 or after day 65535. */
+void wl_day_number(uint16_t year, uint8_t month, uint8_t day, uint64_t answer[4]);
+
+/* ---- times: a day and a millisecond of that day, 0 to 86,399,999. In 6 bytes the day has 2 and the millisecond 4; all 48 bits one are undefined */
 
 /* The time in the 6 bytes from `at` on: 0, 0, defined, day, millisecond, 0; or 20, 21. */
 void wl_read_time(const uint8_t *bytes, size_t len, size_t at, uint64_t answer[6]);
@@ -69,17 +269,20 @@ void wl_read_time(const uint8_t *bytes, size_t len, size_t at, uint64_t answer[6
 /* A time into the first 6 bytes of the room: 0, 0, 6, 0; or 21, 18 with 6. */
 void wl_write_time(uint8_t *room, size_t len, uint8_t defined, uint16_t day, uint32_t milli, uint64_t answer[4]);
 
-/* The order of two times: 0, 0, then 0 where the first is before the other, 1 where they are the same, 2 where it is after, then 0; or 21. */
+/* The order of two times: 0, 0, then enum wl_order, then 0; or 21, also where either is undefined. */
+enum wl_order { WL_BEFORE = 0, WL_SAME = 1, WL_AFTER = 2 };
 void wl_time_order(uint8_t defined, uint16_t day, uint32_t milli, uint8_t other_defined, uint16_t other_day, uint32_t other_milli,
                    uint64_t answer[4]);
 
-/* A time as long text into the first 18 bytes of the room: 0, 0, 18, 0; or 21, 18 with 18. An undefined time is 17 times x and a Z. */
+/* A time as long text, YYYYMMDDHHMMSSmmmZ, into the first 18 bytes of the room: 0, 0, 18, 0; or 21, 18 with 18. An undefined time is 17 times x and a
+ * Z. */
 void wl_time_text(uint8_t *room, size_t len, uint8_t defined, uint16_t day, uint32_t milli, uint64_t answer[4]);
 
 /* The time of the 18 bytes of long text from `at` on: 0, 0, defined, day, millisecond, 0; or 20, 21. Undefined are x's with or without the Z. */
 void wl_text_time(const uint8_t *bytes, size_t len, size_t at, uint64_t answer[6]);
 
-/* ---- scaled numbers: an integer of 2, 4 or 8 bytes divided by 10 to the scale, which is 0 to 15; another width or scale is 21 */
+/* ---- scaled numbers: an integer of 2, 4 or 8 bytes divided by 10 to the scale, which is 0 to 15; another width or scale is 21. In bytes the scale
+ * comes first, one byte, signed. The lowest signed integer of the width, or the highest unsigned one, is undefined whatever the scale */
 
 /* The scaled number in the 1 + width bytes from `at` on, its integer signed or not: 0, 0, defined, integer and scale in two's complement, 0; or
  * 20, 21. */
@@ -91,32 +294,16 @@ void wl_write_scaled(uint8_t *room, size_t len, size_t width, uint8_t signed_, u
                      uint64_t answer[4]);
 
 /* A scaled number rounded to 0 to 15 decimals, a tie away from zero: 0, 0, defined, the units of the last decimal in two's complement; or 21, for
- * other decimals also where the number is undefined. */
+ * other decimals also where the number is undefined. To show it, write its sign first, since -0.1 is -1 tenth and -1 / 10 is 0:
+ *     int64_t units = (int64_t)answer[3];
+ *     uint64_t size = units < 0 ? 0 - (uint64_t)units : (uint64_t)units;
+ *     printf("%s%llu.%0*llu", units < 0 ? "-" : "", size / power, decimals, size % power);      with power = 10 to the decimals, which are not 0 */
 void wl_round(uint8_t defined, int64_t integer, int8_t scale, int8_t decimals, uint64_t answer[4]);
 
-/* What a meter shows of a scaled number: 0, 0, then 0 where it is missing, 1 where it is whole, 2 where it is between, then 0, with the quotient
- * in the value unless it is missing; or 21, also for an integer beyond 2^53 either way, the value kept. */
+/* What a meter shows of a scaled number: 0, 0, then enum wl_shown, then 0, with the quotient, one division, in the value unless it is missing; or 21,
+ * also for an integer beyond 2^53 either way, the value kept. */
+enum wl_shown { WL_MISSING = 0, WL_WHOLE = 1, WL_BETWEEN = 2 };
 void wl_reading(uint8_t defined, int64_t integer, int8_t scale, double *value, uint64_t answer[4]);
-
-/* ---- record headers and lines of the main header */
-
-/* The header in the 20 bytes from `at` on: the numbers of wl_record, with `at` for the start; or 20, 21. */
-void wl_read_header(const uint8_t *bytes, size_t len, size_t at, uint64_t answer[16]);
-
-/* A header into the first 20 bytes of the room: 0, 0, 20, 0; or 21, 18 with 20. */
-void wl_write_header(uint8_t *room, size_t len, uint8_t class_, uint8_t group, uint8_t subclass, uint8_t version, uint32_t size,
-                     uint8_t start_defined, uint16_t start_day, uint32_t start_milli, uint8_t stop_defined, uint16_t stop_day,
-                     uint32_t stop_milli, uint64_t answer[4]);
-
-/* The whole line of field k with a text at the start of the room: 0, 0, the bytes of the line, 0; or 22, 18 with those bytes. */
-void wl_write_text_line(uint8_t *room, size_t len, size_t k, const uint8_t *text, size_t text_len, uint64_t answer[4]);
-
-/* The same with a number. */
-void wl_write_number_line(uint8_t *room, size_t len, size_t k, uint8_t defined, int64_t value, uint64_t answer[4]);
-
-/* The same with a time, whose millisecond must be 0 where the field is short, or 22. */
-void wl_write_time_line(uint8_t *room, size_t len, size_t k, uint8_t defined, uint16_t year, uint8_t month, uint8_t day, uint8_t hour,
-                        uint8_t minute, uint8_t second, uint16_t milli, uint64_t answer[4]);
 
 #ifdef __cplusplus
 }

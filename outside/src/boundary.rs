@@ -2,7 +2,7 @@
 pub mod form;
 pub mod raw;
 
-use crate::values::{GroundPoint, Header, Moment, Reading, Record, Refusal, Scaled, Time, Which};
+use crate::values::{Date, Field, GroundPoint, Header, Moment, Reading, Record, Refusal, Scaled, Time, Which};
 use crate::{Arrival, Finished};
 use std::cmp::Ordering;
 
@@ -24,6 +24,15 @@ pub fn arrival(bytes: &[u8]) -> Arrival {
         [0, end, count, 0] => Arrival::Waiting { count, end },
         [number @ 1..=16, place, 0, 0] => Arrival::Refused { number, place },
         other => panic!("not an answer of the stated form: {other:?}"),
+    }
+}
+
+/// The count of a product's records where all of it has come, `None` where a sound part has.
+pub fn extent(bytes: &[u8]) -> Result<Option<u64>, Refusal> {
+    match form::said(raw::extent(bytes))? {
+        [_, _, 1, count] => Ok(Some(count)),
+        [_, _, 0, 0] => Ok(None),
+        other => panic!("wl_extent answered {other:?}"),
     }
 }
 
@@ -55,6 +64,11 @@ pub fn text_field(bytes: &[u8], k: usize) -> Result<&str, Refusal> {
     Ok(std::str::from_utf8(text).expect("bytes 32 to 126"))
 }
 
+/// Field k whatever the product; its name goes to the start of the room.
+pub fn field(k: usize, name: &mut [u8]) -> Result<Field, Refusal> {
+    form::field(raw::field(k, name), name.len())
+}
+
 pub fn field_named(name: &[u8]) -> Result<usize, Refusal> {
     form::one(raw::field_named(name)).map(|k| k as usize)
 }
@@ -77,7 +91,23 @@ pub fn listing(bytes: &[u8], text: &mut [u8]) -> Result<usize, Refusal> {
     form::written(raw::listing(bytes, text), text.len())
 }
 
-// ---- times
+// ---- dates and times
+
+pub fn is_date(date: Date) -> bool {
+    match form::one(raw::is_date((date.year, date.month, date.day))) {
+        Ok(yes @ 0..=1) => yes == 1,
+        other => panic!("wl_is_date answered {other:?}"),
+    }
+}
+
+pub fn date_of(day: u16) -> Date {
+    form::date(raw::date_of(day)).expect("each day has a date")
+}
+
+pub fn day_number(date: Date) -> Result<u16, Refusal> {
+    let day = form::one(raw::day_number((date.year, date.month, date.day)))?;
+    Ok(u16::try_from(day).expect("a day is 0 to 65535"))
+}
 
 pub fn read_time(bytes: &[u8], at: usize) -> Result<Option<Time>, Refusal> {
     form::time(raw::read_time(bytes, at))

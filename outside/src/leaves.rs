@@ -7,9 +7,9 @@ mod times;
 
 pub use headers::{read_header, write_header};
 pub use lines::{write_number_line, write_text_line, write_time_line};
-pub use queries::{field_named, ground_point, listing, number_field, record, text_field, time_field};
+pub use queries::{extent, field, field_named, ground_point, listing, number_field, record, text_field, time_field};
 pub use scaled::{read_scaled, reading, round, write_scaled};
-pub use times::{read_time, text_time, time_order, time_text, write_time};
+pub use times::{date_of, day_number, is_date, read_time, text_time, time_order, time_text, write_time};
 
 use crate::values::Refusal;
 

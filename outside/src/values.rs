@@ -7,6 +7,23 @@ pub struct Refusal {
     pub place: u64,
 }
 
+/// A day of the calendar.
+#[derive(Clone, Copy, Debug, PartialEq, Eq)]
+pub struct Date {
+    pub year: u16,
+    pub month: u8,
+    pub day: u8,
+}
+
+/// A field of the main header: where its line starts, the width and the kind (`WL_KIND_..`) of its value, and the bytes of its name.
+#[derive(Clone, Copy, Debug, PartialEq, Eq)]
+pub struct Field {
+    pub start: u64,
+    pub width: u64,
+    pub kind: u64,
+    pub name: u64,
+}
+
 /// A short CDS time: the day from 1 January 2000 and the millisecond of that day.
 #[derive(Clone, Copy, Debug, PartialEq, Eq)]
 pub struct Time {

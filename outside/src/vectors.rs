@@ -1,8 +1,8 @@
-//! The shared vectors: VECTORS names their folder.
+//! The repository's vectors, unpacked: VECTORS names their folder (tools/outside unpacks them to target/vectors).
 use std::path::PathBuf;
 
 pub fn file(name: &str) -> PathBuf {
-    let folder = std::env::var("VECTORS").unwrap_or("/work/shared/vectors".into());
+    let folder = std::env::var("VECTORS").unwrap_or(concat!(env!("CARGO_MANIFEST_DIR"), "/../target/vectors").into());
     PathBuf::from(folder).join(name)
 }
 

@@ -1,5 +1,5 @@
 //! Answers as include/warpladle.h states them, made into values. An answer of another form panics.
-use crate::values::{Header, Moment, Record, Refusal, Scaled, Time};
+use crate::values::{Date, Field, Header, Moment, Record, Refusal, Scaled, Time};
 
 #[track_caller]
 fn misformed(answer: &[u64]) -> ! {
@@ -67,6 +67,25 @@ pub fn time(answer: [u64; 6]) -> Result<Option<Time>, Refusal> {
         misformed(&answer);
     }
     Ok(time_at(&answer, 2))
+}
+
+/// Year, month, day and a 0.
+#[track_caller]
+pub fn date(answer: [u64; 6]) -> Result<Date, Refusal> {
+    match said(answer)? {
+        [.., 0] => Ok(Date { year: narrow(&answer, 2), month: narrow(&answer, 3), day: narrow(&answer, 4) }),
+        _ => misformed(&answer),
+    }
+}
+
+/// Where the line starts, width, kind, and the bytes of the name, which the room holds.
+#[track_caller]
+pub fn field(answer: [u64; 6], room: usize) -> Result<Field, Refusal> {
+    let [_, _, start, width, kind, name] = said(answer)?;
+    if name > room as u64 {
+        misformed(&answer);
+    }
+    Ok(Field { start, width, kind, name })
 }
 
 #[track_caller]

@@ -4,15 +4,21 @@
 
 extern "C" {
     fn wl_arrival(bytes: *const u8, len: usize, answer: &mut [u64; 4]);
+    fn wl_extent(bytes: *const u8, len: usize, answer: &mut [u64; 4]);
     fn wl_finished(bytes: *const u8, len: usize, index: *mut u32, room: usize, answer: &mut [u64; 4]);
 
     fn wl_record(bytes: *const u8, len: usize, k: usize, answer: &mut [u64; 16]);
     fn wl_number_field(bytes: *const u8, len: usize, k: usize, answer: &mut [u64; 4]);
     fn wl_time_field(bytes: *const u8, len: usize, k: usize, answer: &mut [u64; 12]);
     fn wl_text_field(bytes: *const u8, len: usize, k: usize, answer: &mut [u64; 4]);
+    fn wl_field(k: usize, name: *mut u8, room: usize, answer: &mut [u64; 6]);
     fn wl_field_named(name: *const u8, len: usize, answer: &mut [u64; 4]);
     fn wl_ground_point(bytes: *const u8, len: usize, which: u8, point: &mut [f64; 2], answer: &mut [u64; 4]);
     fn wl_listing(bytes: *const u8, len: usize, text: *mut u8, room: usize, answer: &mut [u64; 4]);
+
+    fn wl_is_date(year: u16, month: u8, day: u8, answer: &mut [u64; 4]);
+    fn wl_date_of(day: u16, answer: &mut [u64; 6]);
+    fn wl_day_number(year: u16, month: u8, day: u8, answer: &mut [u64; 4]);
 
     fn wl_read_time(bytes: *const u8, len: usize, at: usize, answer: &mut [u64; 6]);
     fn wl_write_time(room: *mut u8, len: usize, defined: u8, day: u16, milli: u32, answer: &mut [u64; 4]);
@@ -75,6 +81,11 @@ pub fn arrival(bytes: &[u8]) -> [u64; 4] {
     answered(|answer| unsafe { wl_arrival(bytes.as_ptr(), bytes.len(), answer) })
 }
 
+pub fn extent(bytes: &[u8]) -> [u64; 4] {
+    // SAFETY: as above.
+    answered(|answer| unsafe { wl_extent(bytes.as_ptr(), bytes.len(), answer) })
+}
+
 pub fn finished(bytes: &[u8], index: &mut [u32]) -> [u64; 4] {
     // SAFETY: as above.
     answered(|answer| unsafe { wl_finished(bytes.as_ptr(), bytes.len(), index.as_mut_ptr(), index.len(), answer) })
@@ -100,6 +111,11 @@ pub fn text_field(bytes: &[u8], k: usize) -> [u64; 4] {
     answered(|answer| unsafe { wl_text_field(bytes.as_ptr(), bytes.len(), k, answer) })
 }
 
+pub fn field(k: usize, name: &mut [u8]) -> [u64; 6] {
+    // SAFETY: as above.
+    answered(|answer| unsafe { wl_field(k, name.as_mut_ptr(), name.len(), answer) })
+}
+
 pub fn field_named(name: &[u8]) -> [u64; 4] {
     // SAFETY: as above.
     answered(|answer| unsafe { wl_field_named(name.as_ptr(), name.len(), answer) })
@@ -113,6 +129,21 @@ pub fn ground_point(bytes: &[u8], which: u8, point: &mut [f64; 2]) -> [u64; 4] {
 pub fn listing(bytes: &[u8], text: &mut [u8]) -> [u64; 4] {
     // SAFETY: as above.
     answered(|answer| unsafe { wl_listing(bytes.as_ptr(), bytes.len(), text.as_mut_ptr(), text.len(), answer) })
+}
+
+pub fn is_date((year, month, day): (u16, u8, u8)) -> [u64; 4] {
+    // SAFETY: as above.
+    answered(|answer| unsafe { wl_is_date(year, month, day, answer) })
+}
+
+pub fn date_of(day: u16) -> [u64; 6] {
+    // SAFETY: as above.
+    answered(|answer| unsafe { wl_date_of(day, answer) })
+}
+
+pub fn day_number((year, month, day): (u16, u8, u8)) -> [u64; 4] {
+    // SAFETY: as above.
+    answered(|answer| unsafe { wl_day_number(year, month, day, answer) })
 }
 
 pub fn read_time(bytes: &[u8], at: usize) -> [u64; 6] {

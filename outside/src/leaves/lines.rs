@@ -5,7 +5,7 @@ use crate::lines::{Kind, LINES};
 use crate::values::{Moment, Refusal};
 
 /// Name, width and kind of field k.
-pub(super) fn field(k: usize) -> Result<(&'static str, usize, Kind), Refusal> {
+pub(super) fn line(k: usize) -> Result<(&'static str, usize, Kind), Refusal> {
     LINES.get(k).copied().map_or_else(|| refused(22, 0), Ok)
 }
 
@@ -14,7 +14,7 @@ fn write_line(room: &mut [u8], name: &str, value: &[u8]) -> Result<usize, Refusa
 }
 
 pub fn write_text_line(room: &mut [u8], k: usize, text: &[u8]) -> Result<usize, Refusal> {
-    let (name, width, kind) = field(k)?;
+    let (name, width, kind) = line(k)?;
     if kind != Kind::Text || text.len() != width || !text.iter().all(|b| (32..=126).contains(b)) {
         return refused(22, 0);
     }
@@ -22,7 +22,7 @@ pub fn write_text_line(room: &mut [u8], k: usize, text: &[u8]) -> Result<usize, 
 }
 
 pub fn write_number_line(room: &mut [u8], k: usize, value: Option<i64>) -> Result<usize, Refusal> {
-    let (name, width, kind) = field(k)?;
+    let (name, width, kind) = line(k)?;
     let fits = match kind {
         Kind::Signed => true,
         Kind::Unsigned => value.is_none_or(|n| n >= 0),
@@ -38,7 +38,7 @@ pub fn write_number_line(room: &mut [u8], k: usize, value: Option<i64>) -> Resul
 
 /// A millisecond doesn't fit a short field (E14).
 pub fn write_time_line(room: &mut [u8], k: usize, moment: Option<Moment>) -> Result<usize, Refusal> {
-    let (name, _, kind) = field(k)?;
+    let (name, _, kind) = line(k)?;
     let fits = match kind {
         Kind::Time => moment.is_none_or(|m| is_moment(&m) && m.milli == 0),
         Kind::LongTime => moment.is_none_or(|m| is_moment(&m)),

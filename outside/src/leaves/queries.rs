@@ -1,12 +1,24 @@
 //! Queries of a product, arriving or whole, and its listing.
 use super::headers::read_header;
-use super::lines::field;
+use super::lines::line;
 use super::scaled::quotient;
 use super::times::read_moment;
 use super::{refused, write};
 use crate::lines::{Kind, LINES, MAIN_SIZE, STARTS};
-use crate::values::{GroundPoint, Moment, Record, Refusal, Which};
+use crate::values::{Field, GroundPoint, Moment, Record, Refusal, Which};
 use crate::{plain, Arrival, Finished};
+
+/// The judge's refusal; or the count of a product that has wholly come, as the finished judge has it; or none where it is a sound part.
+pub fn extent(bytes: &[u8]) -> Result<Option<u64>, Refusal> {
+    if let Arrival::Refused { number, place } = plain::arrival(bytes) {
+        return Err(Refusal { number, place });
+    }
+    match plain::finished(bytes, &mut vec![0; bytes.len() / 20 + 1]) {
+        Finished::Accepted { count } => Ok(Some(count)),
+        Finished::Refused { number: 17, .. } => Ok(None),
+        other => panic!("an arrival that waits is finished as {other:?}"),
+    }
+}
 
 /// The judge's refusal; or 19 with the whole records counted; or record k.
 pub fn record(bytes: &[u8], k: usize) -> Result<Record, Refusal> {
@@ -28,7 +40,7 @@ fn value<'a>(bytes: &'a [u8], k: usize, kinds: &[Kind]) -> Result<&'a [u8], Refu
     if bytes.len() < MAIN_SIZE {
         return refused(17, bytes.len());
     }
-    let (_, width, kind) = field(k)?;
+    let (_, width, kind) = line(k)?;
     if !kinds.contains(&kind) {
         return refused(22, 0);
     }
@@ -53,6 +65,21 @@ pub fn time_field(bytes: &[u8], k: usize) -> Result<Option<Moment>, Refusal> {
 
 pub fn text_field(bytes: &[u8], k: usize) -> Result<&str, Refusal> {
     value(bytes, k, &[Kind::Text]).map(as_text)
+}
+
+/// Field k, with its name at the start of the room: 22, then 18 with the bytes of the name.
+pub fn field(k: usize, room: &mut [u8]) -> Result<Field, Refusal> {
+    let (name, width, kind) = line(k)?;
+    let bytes = write(room, name.as_bytes())?;
+    let kind = match kind {
+        Kind::Text => 0,
+        Kind::Unsigned => 1,
+        Kind::Needed => 2,
+        Kind::Signed => 3,
+        Kind::Time => 4,
+        Kind::LongTime => 5,
+    };
+    Ok(Field { start: STARTS[k] as u64, width: width as u64, kind, name: bytes as u64 })
 }
 
 pub fn field_named(name: &[u8]) -> Result<usize, Refusal> {

@@ -1,6 +1,6 @@
 //! Short CDS times, and times as text.
 use super::{big_endian, part, refused, write};
-use crate::values::{Moment, Refusal, Time};
+use crate::values::{Date, Moment, Refusal, Time};
 use std::cmp::Ordering;
 
 const LAST_MILLI: u32 = 86_399_999;
@@ -51,9 +51,12 @@ fn days_of_month(year: u16, month: u8) -> u8 {
     }
 }
 
+pub fn is_date(d: Date) -> bool {
+    d.year <= 9999 && (1..=days_of_month(d.year, d.month)).contains(&d.day)
+}
+
 pub(super) fn is_moment(m: &Moment) -> bool {
-    m.year <= 9999
-        && (1..=days_of_month(m.year, m.month)).contains(&m.day)
+    is_date(Date { year: m.year, month: m.month, day: m.day })
         && m.hour <= 23
         && m.minute <= 59
         && m.second <= 59
@@ -61,23 +64,23 @@ pub(super) fn is_moment(m: &Moment) -> bool {
 }
 
 /// Year, month and day of a day from 1 January 2000, month by month.
-fn date_of(day: u16) -> (u16, u8, u8) {
+pub fn date_of(day: u16) -> Date {
     let (mut year, mut month, mut left) = (2000, 1, day as u32);
     while left >= days_of_month(year, month) as u32 {
         left -= days_of_month(year, month) as u32;
         (year, month) = if month == 12 { (year + 1, 1) } else { (year, month + 1) };
     }
-    (year, month, left as u8 + 1)
+    Date { year, month, day: left as u8 + 1 }
 }
 
-/// The day from 1 January 2000, where it is 0..65535.
-fn day_number(m: &Moment) -> Option<u16> {
-    if m.year < 2000 {
-        return None;
+/// The day from 1 January 2000; 21 for no date and where it is not 0..65535.
+pub fn day_number(d: Date) -> Result<u16, Refusal> {
+    if d.year < 2000 || !is_date(d) {
+        return refused(21, 0);
     }
-    let years: u32 = (2000..m.year).map(|y| 365 + is_leap(y) as u32).sum();
-    let months: u32 = (1..m.month).map(|k| days_of_month(m.year, k) as u32).sum();
-    u16::try_from(years + months + m.day as u32 - 1).ok()
+    let years: u32 = (2000..d.year).map(|y| 365 + is_leap(y) as u32).sum();
+    let months: u32 = (1..d.month).map(|k| days_of_month(d.year, k) as u32).sum();
+    u16::try_from(years + months + d.day as u32 - 1).or(refused(21, 0))
 }
 
 /// As 002 writes it: 18 bytes, or 15; undefined is x's and a final Z (A2).
@@ -115,7 +118,7 @@ pub(super) fn read_moment(text: &[u8]) -> Result<Option<Moment>, Refusal> {
 }
 
 fn moment_of(time: Time) -> Moment {
-    let (year, month, day) = date_of(time.day);
+    let Date { year, month, day } = date_of(time.day);
     let seconds = time.milli / 1000;
     Moment {
         year,
@@ -135,7 +138,7 @@ pub fn time_text(room: &mut [u8], time: Option<Time>) -> Result<usize, Refusal> 
 
 pub fn text_time(bytes: &[u8], at: usize) -> Result<Option<Time>, Refusal> {
     let Some(m) = read_moment(part(bytes, at, 18)?)? else { return Ok(None) };
-    let Some(day) = day_number(&m) else { return refused(21, 0) };
+    let day = day_number(Date { year: m.year, month: m.month, day: m.day })?;
     let seconds = (m.hour as u32 * 60 + m.minute as u32) * 60 + m.second as u32;
     Ok(Some(Time { day, milli: seconds * 1000 + m.milli as u32 }))
 }

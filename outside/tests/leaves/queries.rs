@@ -48,6 +48,18 @@ fn any_record(rng: &mut Rng, count: usize) -> usize {
 }
 
 #[test]
+fn extent() {
+    let (mut rng, mut seen) = (Rng(50), Seen::of("wl_extent"));
+    of_products(&mut rng, |_, _, bytes| {
+        let ours = leaves::extent(bytes);
+        assert_eq!(boundary::extent(bytes), ours, "at {}", bytes.len());
+        seen.note(&ours, |whole| if whole.is_some() { "whole" } else { "part" });
+    });
+    let refusals: Vec<u64> = (1..=16).collect();
+    seen.complete(&["whole", "part"], &refusals);
+}
+
+#[test]
 fn record() {
     let (mut rng, mut seen) = (Rng(51), Seen::of("wl_record"));
     of_products(&mut rng, |rng, p, bytes| {
@@ -162,6 +174,23 @@ fn field_named() {
         assert_eq!(boundary::field_named(line.0.as_bytes()), Ok(k));
     }
     seen.complete(&["field"], &[22]);
+}
+
+#[test]
+fn field() {
+    let (mut rng, mut seen) = (Rng(59), Seen::of("wl_field"));
+    for _ in 0..cases(CASES) {
+        let (k, len) = (any_field(&mut rng, &[Kind::Text, Kind::Needed, Kind::Time, Kind::LongTime]), rng.below(40));
+        let before = noise(&mut rng, len);
+        let (mut expected, mut room) = (before.clone(), before.clone());
+        let ours = leaves::field(k, &mut expected);
+        assert_eq!(boundary::field(k, &mut room), ours, "field {k} in {len}");
+        assert_eq!(room, expected, "field {k} in {len}");
+        let kept = ours.map_or(0, |field| field.name as usize);
+        assert_eq!(room[kept..], before[kept..], "field {k} in {len}");
+        seen.note(&ours, |_| "field");
+    }
+    seen.complete(&["field"], &[18, 22]);
 }
 
 /// Spellings that a point may turn on.

@@ -3,7 +3,7 @@ use outside::boundary::{self, form, raw};
 use outside::generate::Rng;
 use outside::leaves;
 use outside::seen::{cases, Seen};
-use outside::values::Time;
+use outside::values::{Date, Time};
 
 /// A flag, a day and a millisecond. Where the flag is 0 the others are any.
 pub type Flat = (u8, u16, u32);
@@ -46,6 +46,49 @@ fn name(time: &Option<Time>) -> &'static str {
     } else {
         "undefined"
     }
+}
+
+/// A date of the days, beside them, or no date at all.
+fn any_date(rng: &mut Rng) -> Date {
+    let year = rng.next() as u16;
+    let year = rng.pick(&[year, 0, 4, 1999, 2000, 2001, 2096, 2100, 2178, 2179, 2180, 9999, 10_000, 2000 + year % 180, 2000 + year % 180]);
+    let (month, day) = (rng.next() as u8, rng.next() as u8);
+    let month = rng.pick(&[month, 0, 1, 2, 2, 2, 4, 6, 12, 13, month % 13, month % 13]);
+    Date { year, month, day: rng.pick(&[day, 0, 1, 28, 29, 30, 31, 32, day % 32, day % 32]) }
+}
+
+#[test]
+fn is_date() {
+    let (mut rng, mut seen) = (Rng(17), Seen::of("wl_is_date"));
+    for _ in 0..cases(CASES) {
+        let date = any_date(&mut rng);
+        let ours = leaves::is_date(date);
+        assert_eq!(boundary::is_date(date), ours, "{date:?}");
+        seen.note(&Ok(ours), |yes| if *yes { "a date" } else { "none" });
+    }
+    seen.complete(&["a date", "none"], &[]);
+}
+
+/// Every day there is, and back.
+#[test]
+fn date_of() {
+    for day in 0..=u16::MAX {
+        let ours = leaves::date_of(day);
+        assert_eq!(boundary::date_of(day), ours, "{day}");
+        assert_eq!(boundary::day_number(ours), Ok(day));
+    }
+}
+
+#[test]
+fn day_number() {
+    let (mut rng, mut seen) = (Rng(18), Seen::of("wl_day_number"));
+    for _ in 0..cases(CASES) {
+        let date = any_date(&mut rng);
+        let ours = leaves::day_number(date);
+        assert_eq!(boundary::day_number(date), ours, "{date:?}");
+        seen.note(&ours, |_| "a day");
+    }
+    seen.complete(&["a day"], &[21]);
 }
 
 #[test]

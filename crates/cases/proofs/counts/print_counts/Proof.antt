@@ -1,17 +1,23 @@
--- `meter_cases::print_all` is safe and ends: the loop goes over the kinds. Assumes nothing.
-use Prim.Native.Nat.{ℕ, _≤_, _-_}
-use Rattle.meter_cases.proofs.print_all.Statement.{statement}
-use Rattle.meter_cases.proofs.print_all.Tie as tie
+-- `cases::counts::print_counts` is safe and ends: the loop goes over the kinds. Assumes nothing.
 use borrow.Author.Needs.{needs}
+use Prim.Native.Nat.{_≤_, _-_}
+use Rattle.cases.proofs.counts.print_counts.Statement.{statement}
+use Rattle.cases.proofs.counts.print_counts.Tie as tie
 
 abbrev Inv-loop : tie.InvT-loop
-Inv-loop counts kind₀ kind = kind ≤ 19
+Inv-loop names width counts kind₀ kind = kind ≤ 32
 
 abbrev μ-loop : tie.MeasureT-loop
-μ-loop counts kind₀ kind = 19 - kind
+μ-loop names width counts kind₀ kind = 32 - kind
 
 loop-holds : tie.Need-loop-holds Inv-loop μ-loop
 loop-holds c = search needs
+
+cast-name-of : tie.Need-cast-name-of Inv-loop μ-loop
+cast-name-of c = search needs
+
+name-of-requires : tie.Need-name-of-requires Inv-loop μ-loop
+name-of-requires c κs = search needs
 
 mul-print-count : tie.Need-mul-print-count Inv-loop μ-loop
 mul-print-count c = search needs
@@ -40,13 +46,15 @@ loop-again c = search needs
 returns : tie.Need-returns Inv-loop μ-loop
 returns c = search needs
 
-pub print-all-spec : {M : Type 1} → statement M
-print-all-spec =
+pub print-counts-spec : {M : Type 1} → statement M
+print-counts-spec =
     tie.close
     (tie.spec
     Inv-loop
     μ-loop
     loop-holds
+    cast-name-of
+    name-of-requires
     mul-print-count
     element-copy-out-print-count
     mul-print-count-2

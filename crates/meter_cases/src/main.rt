@@ -187,7 +187,7 @@ fn scaled_in(case: &[u8]) -> Scaled {
     }
 }
 
-// ---- the cases, by their kinds; a room is the first n bytes of 32
+// ---- the cases, by their kinds
 fn run_read_unsigned(case: &[u8]) -> Answer {
     match meter::integer::read_unsigned(lent(case), offset(case), width(case)) {
         Unsigned::Value(v) => value(v, 0, 0),

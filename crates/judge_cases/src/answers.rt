@@ -1,56 +1,13 @@
-// How answers are printed: words, numbers, refusals, times and floats. Each number stands after a space; whoever prints the last of a
-// line ends the line.
-use calendar::Refusal;
+// How answers are printed. Whoever prints the last of a line ends the line.
+use cases::print::number;
+use cases::print::refusal;
+use cases::print::say;
+use cases::print::signed;
 use finish::Finished;
 use judge::arrival::Arrival;
-use libc::STDOUT_FILENO;
 use meter::general::General;
 use meter::general::Moment;
 use text::Number;
-
-pub(crate) fn say(text: &[u8]) {
-    io::write_all(STDOUT_FILENO, text);
-}
-
-pub(crate) fn number(n: u64) {
-    say(b" ");
-    io::print_decimal(STDOUT_FILENO, n);
-}
-
-// How far v is from 0: -1 - v fits also where v is the least number.
-fn size_of(v: i64) -> u64 {
-    if v < 0 {
-        let m = -1 - v;
-        (m as u64) + 1
-    } else {
-        v as u64
-    }
-}
-
-fn signed(v: i64) {
-    if v < 0 {
-        say(b" -");
-    } else {
-        say(b" ");
-    }
-    io::print_decimal(STDOUT_FILENO, size_of(v));
-}
-
-// A float's bits, 16 digits of base 16; a NaN has none that are its own.
-pub(crate) fn float(x: f64) {
-    if x == x {
-        say(b" ");
-        io::print_hex(STDOUT_FILENO, f64::to_bits(x), 16);
-    } else {
-        say(b" nan");
-    }
-}
-
-pub(crate) fn refusal(r: Refusal) {
-    say(b" refused");
-    number(r.number as u64);
-    number(r.place as u64);
-}
 
 pub(crate) fn arrival(judged: Arrival) {
     match judged {

@@ -1,8 +1,10 @@
 // Products judged: every prefix of an arrival and the finished product, printed as the vectors' expected text is; and the index of the
 // finished judge, for rooms that are too small, just large enough, and larger.
-use crate::print;
-use crate::print::say;
+use crate::answers;
 use calendar::Refusal;
+use cases::input::part;
+use cases::print;
+use cases::print::say;
 use finish::Finished;
 use finish::judge_finished;
 use judge::arrival::Arrival;
@@ -12,11 +14,6 @@ use judge::arrival::judge_arrival;
 const PLACES: usize = 64;
 
 const UNTOUCHED: u32 = 0xaaaa_aaaa;
-
-// The first n bytes, or all of them where there are fewer.
-pub(crate) fn first(bytes: &[u8], n: usize) -> &[u8] {
-    if n <= bytes.len() { &bytes[..n] } else { bytes }
-}
 
 fn same_refusal(a: Refusal, b: Refusal) -> bool {
     a.number == b.number && a.place == b.place
@@ -38,17 +35,17 @@ fn same(a: Arrival, b: Arrival) -> bool {
 fn print_at(n: usize, judged: Arrival) {
     say(b"at");
     print::number(n as u64);
-    print::arrival(judged);
+    answers::arrival(judged);
 }
 
 // The answer to the empty arrival, and each that differs from the answer at one byte less.
 fn print_arrivals(bytes: &[u8]) {
-    let mut last = judge_arrival(first(bytes, 0));
+    let mut last = judge_arrival(part(bytes, 0, 0));
     print_at(0, last);
     let mut n: usize = 0;
     while n < bytes.len() {
         n += 1;
-        let next = judge_arrival(first(bytes, n));
+        let next = judge_arrival(part(bytes, 0, n));
         if !same(last, next) {
             print_at(n, next);
         }
@@ -73,7 +70,7 @@ pub(crate) fn print_product(number: u64, bytes: &[u8]) {
     print::number(bytes.len() as u64);
     say(b"\nfinished");
     let mut index = [UNTOUCHED; PLACES];
-    print::finished(judge_into(bytes, &mut index, PLACES));
+    answers::finished(judge_into(bytes, &mut index, PLACES));
     print_arrivals(bytes);
 }
 
@@ -97,7 +94,7 @@ fn print_index(number: u64, bytes: &[u8], room: usize) {
     say(b"index");
     print::number(number);
     print::number(room as u64);
-    print::finished(judge_into(bytes, &mut index, room));
+    answers::finished(judge_into(bytes, &mut index, room));
     print_places(&index, room);
 }
 

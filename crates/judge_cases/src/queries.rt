@@ -1,7 +1,8 @@
 // Queries of products, whole or still arriving: records by their numbers, every field by each of the four field queries, so that those of
 // another kind are refused too, and the ground points.
-use crate::print;
-use crate::print::say;
+use crate::answers;
+use cases::print;
+use cases::print::say;
 use query::FieldAnswer;
 use query::NumberAnswer;
 use query::PointAnswer;
@@ -42,14 +43,14 @@ fn print_records(bytes: &[u8], asked: usize) {
 fn print_number_field(bytes: &[u8], k: usize) {
     say(b" number");
     match query::number_field(bytes, k) {
-        NumberAnswer::Number(n) => print::integer(n),
+        NumberAnswer::Number(n) => answers::integer(n),
         NumberAnswer::Refused(r) => print::refusal(r),
     }
 }
 
 fn print_time(answer: TimeAnswer) {
     match answer {
-        TimeAnswer::Time(t) => print::time(t),
+        TimeAnswer::Time(t) => answers::time(t),
         TimeAnswer::Refused(r) => print::refusal(r),
     }
 }

@@ -2,23 +2,17 @@
 // written into the same room. A case is eight bytes, the product's length and the room's, and then the product (tools/list-cases
 // writes them).
 use calendar::Refusal;
+use cases::input::fitting;
+use cases::input::part;
+use cases::input::read;
+use cases::input::read_part;
+use cases::input::word;
+use cases::print::number;
+use cases::print::say;
 use libc::STDIN_FILENO;
-use libc::STDOUT_FILENO;
 use listing::Listed;
-use meter::integer::Unsigned;
 
 const FILL: u8 = 0xaa;
-
-fn say(text: &[u8]) {
-    io::write_all(STDOUT_FILENO, text);
-}
-
-fn word(head: &[u8], at: usize) -> usize {
-    match meter::integer::read_unsigned(head, at, 4) {
-        Unsigned::Value(v) => v as usize,
-        Unsigned::Refused(_) => 0,
-    }
-}
 
 // The room from n on is as it came.
 fn is_kept(room: &[u8], n: usize) -> bool {
@@ -36,12 +30,11 @@ fn is_kept(room: &[u8], n: usize) -> bool {
 fn print_part(room: &[u8], n: usize) {
     if n > room.len() {
         say(b"beyond the room\n");
-        return;
     }
     if !is_kept(room, n) {
         say(b"lost\n");
     }
-    say(&room[..n]);
+    say(part(room, 0, n));
 }
 
 fn print_refusal(r: Refusal, room: &mut [u8]) {
@@ -51,8 +44,8 @@ fn print_refusal(r: Refusal, room: &mut [u8]) {
     match listing::refusal_line(r, room) {
         Listed::Bytes(n) => print_part(room, n),
         Listed::Refused(q) => {
-            say(b"no room for a line: ");
-            io::print_decimal(STDOUT_FILENO, q.place as u64);
+            say(b"no room for a line:");
+            number(q.place as u64);
             say(b"\n");
             print_part(room, 0);
         }
@@ -67,15 +60,8 @@ fn list_into(bytes: &[u8], room: &mut [u8]) {
 }
 
 fn run_case(head: &[u8], bytes: &mut [u8], room: &mut [u8]) {
-    let n = word(head, 0);
-    let m = word(head, 4);
-    if n > bytes.len() {
-        return;
-    }
-    if m > room.len() {
-        return;
-    }
-    io::read_full(STDIN_FILENO, &mut bytes[..n]);
+    let n = read_part(STDIN_FILENO, bytes, word(head, 0, 4) as usize);
+    let m = fitting(word(head, 4, 4) as usize, room);
     list_into(&bytes[..n], &mut room[..m]);
 }
 
@@ -89,7 +75,7 @@ fn main() {
     let most: usize = 100000;
     for _ in 0..most {
         let mut head = [0u8; 8];
-        if io::read_full(STDIN_FILENO, &mut head) < 8 {
+        if !read(STDIN_FILENO, &mut head) {
             return;
         }
         run_in_rooms(&head);

@@ -3,9 +3,23 @@
 // of each kind agreed, and each disagreement whole.
 use calendar::Date;
 use calendar::DayNumber;
-use calendar::Refusal;
+use cases::answer::Answer;
+use cases::answer::judged;
+use cases::answer::refused;
+use cases::answer::tagged;
+use cases::answer::value;
+use cases::answer::written;
+use cases::counts::Counts;
+use cases::counts::counted;
+use cases::counts::none;
+use cases::counts::print_counts;
+use cases::input::byte;
+use cases::input::fitting;
+use cases::input::is_same;
+use cases::input::part;
+use cases::input::read;
+use cases::input::word;
 use libc::STDIN_FILENO;
-use libc::STDOUT_FILENO;
 use meter::general::General;
 use meter::general::GeneralRead;
 use meter::general::Moment;
@@ -45,29 +59,7 @@ date_of         \
 day_number      \
 is_date         ";
 
-// What an answer says, flattened: its tag (0 a value, 1 a refusal, 2 undefined or missing, 3 whole, 4 between), a refusal's
-// number, up to three numbers, and whether the room, or the float, is as it should be.
-pub struct Answer {
-    pub tag: u8,
-    pub number: u8,
-    pub a: u64,
-    pub b: u64,
-    pub c: u64,
-    pub kept: bool,
-}
-
-// ---- the bytes of a case, 0 beyond its end
-fn byte(case: &[u8], at: usize) -> u8 {
-    if at < case.len() { case[at] } else { 0 }
-}
-
-fn word(case: &[u8], at: usize, n: usize) -> u64 {
-    match meter::integer::read_unsigned(case, at, n) {
-        Unsigned::Value(v) => v,
-        Unsigned::Refused(_) => 0,
-    }
-}
-
+// ---- the numbers of a case
 fn integer(case: &[u8], at: usize) -> i64 {
     match meter::integer::read_signed(case, at, 8) {
         Signed::Value(v) => v,
@@ -94,61 +86,7 @@ fn bits(v: i64) -> u64 {
     word(&room, 0, 8)
 }
 
-// ---- answers
-fn value(a: u64, b: u64, c: u64) -> Answer {
-    Answer {
-        tag: 0,
-        number: 0,
-        a,
-        b,
-        c,
-        kept: true,
-    }
-}
-
-fn tagged(tag: u8) -> Answer {
-    Answer {
-        tag,
-        number: 0,
-        a: 0,
-        b: 0,
-        c: 0,
-        kept: true,
-    }
-}
-
-fn refused(r: Refusal) -> Answer {
-    Answer {
-        tag: 1,
-        number: r.number,
-        a: r.place as u64,
-        b: 0,
-        c: 0,
-        kept: true,
-    }
-}
-
-fn written(w: Written, kept: bool) -> Answer {
-    match w {
-        Written::Bytes(n) => Answer {
-            tag: 0,
-            number: 0,
-            a: n as u64,
-            b: 0,
-            c: 0,
-            kept,
-        },
-        Written::Refused(r) => Answer {
-            tag: 1,
-            number: r.number,
-            a: r.place as u64,
-            b: 0,
-            c: 0,
-            kept,
-        },
-    }
-}
-
+// ---- answers: tag 2 is undefined or missing, 3 whole, 4 between
 fn scaled_value(v: i64, scale: i8) -> Answer {
     value(bits(v), bits(scale as i64), 0)
 }
@@ -169,7 +107,7 @@ fn moment_value(t: Moment) -> Answer {
 
 fn time_value(t: Time) -> Answer {
     match t {
-        Time::Undefined => tagged(2),
+        Time::Undefined => tagged(2, true),
         Time::At { day, milli } => value(day as u64, milli as u64, 0),
     }
 }
@@ -177,35 +115,24 @@ fn time_value(t: Time) -> Answer {
 fn time_read(r: TimeRead) -> Answer {
     match r {
         TimeRead::Time(t) => time_value(t),
-        TimeRead::Refused(r) => refused(r),
+        TimeRead::Refused(r) => refused(r, true),
     }
 }
 
-// The float is the one whose bits stand in the case, a zero's sign too.
+// The float is the one whose bits stand in the case, a zero's sign too; none is a NaN.
 fn float_value(case: &[u8], tag: u8, q: f64) -> Answer {
     let bits = word(case, 64, 8);
     if bits % 0x8000_0000_0000_0000 > 0x7ff0_0000_0000_0000 {
-        return tagged(tag);
+        return tagged(tag, false);
     }
     let want = f64::from_bits(bits);
-    Answer {
-        tag,
-        number: 0,
-        a: 0,
-        b: 0,
-        c: 0,
-        kept: q == want && 1.0 / q == 1.0 / want,
-    }
+    tagged(tag, q == want && 1.0 / q == 1.0 / want)
 }
 
 // ---- what is handed in
 // The bytes of a reader: their number at 1, themselves from 4 on.
 fn lent(case: &[u8]) -> &[u8] {
-    if case.len() < 48 {
-        return case;
-    }
-    let end = 4 + (byte(case, 1) % 33) as usize;
-    &case[4..end]
+    part(case, 4, byte(case, 1) as usize)
 }
 
 fn offset(case: &[u8]) -> usize {
@@ -214,16 +141,6 @@ fn offset(case: &[u8]) -> usize {
 
 fn width(case: &[u8]) -> usize {
     byte(case, 40) as usize
-}
-
-// The room holds at exit what the case says.
-fn kept(case: &[u8], room: &[u8; 32]) -> bool {
-    for i in 0..32 {
-        if room[i] != byte(case, 64 + i) {
-            return false;
-        }
-    }
-    true
 }
 
 fn time_in(case: &[u8], at: usize) -> Time {
@@ -270,24 +187,24 @@ fn scaled_in(case: &[u8]) -> Scaled {
     }
 }
 
-// ---- the cases, by their kinds; a room is the first n bytes of 32
+// ---- the cases, by their kinds
 fn run_read_unsigned(case: &[u8]) -> Answer {
     match meter::integer::read_unsigned(lent(case), offset(case), width(case)) {
         Unsigned::Value(v) => value(v, 0, 0),
-        Unsigned::Refused(r) => refused(r),
+        Unsigned::Refused(r) => refused(r, true),
     }
 }
 
 fn run_read_signed(case: &[u8]) -> Answer {
     match meter::integer::read_signed(lent(case), offset(case), width(case)) {
         Signed::Value(v) => scaled_value(v, 0),
-        Signed::Refused(r) => refused(r),
+        Signed::Refused(r) => refused(r, true),
     }
 }
 
 fn run_order(case: &[u8]) -> Answer {
     match meter::time::time_order(time_in(case, 3), time_in(case, 13)) {
-        TimeOrder::Refused(r) => refused(r),
+        TimeOrder::Refused(r) => refused(r, true),
         TimeOrder::Order(o) => match o {
             Order::Before => value(0, 0, 0),
             Order::Same => value(1, 0, 0),
@@ -298,9 +215,9 @@ fn run_order(case: &[u8]) -> Answer {
 
 fn run_read_general(case: &[u8]) -> Answer {
     match meter::general::read_general(lent(case), offset(case), byte(case, 40) == 1) {
-        GeneralRead::Refused(r) => refused(r),
+        GeneralRead::Refused(r) => refused(r, true),
         GeneralRead::Time(g) => match g {
-            General::Undefined => tagged(2),
+            General::Undefined => tagged(2, true),
             General::At(t) => moment_value(t),
         },
     }
@@ -308,9 +225,9 @@ fn run_read_general(case: &[u8]) -> Answer {
 
 fn run_read_scaled(case: &[u8]) -> Answer {
     match meter::scaled::read_scaled(lent(case), offset(case), width(case), byte(case, 41) == 1) {
-        ScaledRead::Refused(r) => refused(r),
+        ScaledRead::Refused(r) => refused(r, true),
         ScaledRead::Scaled(x) => match x {
-            Scaled::Undefined => tagged(2),
+            Scaled::Undefined => tagged(2, true),
             Scaled::Number { integer, scale } => scaled_value(integer, scale),
         },
     }
@@ -318,9 +235,9 @@ fn run_read_scaled(case: &[u8]) -> Answer {
 
 fn run_round(case: &[u8]) -> Answer {
     match meter::scaled::round_to(scaled_in(case), small(byte(case, 13))) {
-        Rounded::Refused(r) => refused(r),
+        Rounded::Refused(r) => refused(r, true),
         Rounded::Decimal(x) => match x {
-            Decimal::Undefined => tagged(2),
+            Decimal::Undefined => tagged(2, true),
             Decimal::Whole(m) => scaled_value(m, 0),
         },
     }
@@ -328,9 +245,9 @@ fn run_round(case: &[u8]) -> Answer {
 
 fn run_reading(case: &[u8]) -> Answer {
     match meter::scaled::reading_of(scaled_in(case)) {
-        Shown::Refused(r) => refused(r),
+        Shown::Refused(r) => refused(r, true),
         Shown::Reading(x) => match x {
-            Reading::Missing => tagged(2),
+            Reading::Missing => tagged(2, true),
             Reading::Whole(q) => float_value(case, 3, q),
             Reading::Between(q) => float_value(case, 4, q),
         },
@@ -340,7 +257,7 @@ fn run_reading(case: &[u8]) -> Answer {
 fn run_day_number(case: &[u8]) -> Answer {
     match calendar::day_number(date_in(case)) {
         DayNumber::Day(n) => value(n as u64, 0, 0),
-        DayNumber::Refused(r) => refused(r),
+        DayNumber::Refused(r) => refused(r, true),
     }
 }
 
@@ -364,19 +281,16 @@ fn write_into(case: &[u8], kind: u8, room: &mut [u8]) -> Written {
     }
 }
 
-// The first bytes of the room are lent.
-fn write_part(case: &[u8], kind: u8, room: &mut [u8]) -> Written {
-    let n = (byte(case, 1) % 33) as usize;
-    if n <= room.len() {
-        return write_into(case, kind, &mut room[..n]);
-    }
-    Written::Bytes(0)
+// The first bytes of the room are lent, as many as the case says; at exit the room is what the case has from byte 64 on.
+fn write_in(case: &[u8], kind: u8, room: &mut [u8]) -> Answer {
+    let n = fitting(byte(case, 1) as usize, room);
+    let w = write_into(case, kind, &mut room[..n]);
+    written(w, is_same(room, case, 64))
 }
 
 fn run_writer(case: &[u8], kind: u8) -> Answer {
     let mut room = [0xaau8; 32];
-    let w = write_part(case, kind, &mut room);
-    written(w, kept(case, &room))
+    write_in(case, kind, &mut room)
 }
 
 fn answered(case: &[u8]) -> Answer {
@@ -398,117 +312,30 @@ fn answered(case: &[u8]) -> Answer {
     }
 }
 
-// ---- what is printed
-fn say(text: &[u8]) {
-    io::write_all(STDOUT_FILENO, text);
-}
-
-fn print_name(kind: usize) {
-    let names = NAMES;
-    if kind < 19 {
-        let from = kind * 16;
-        let to = from + 16;
-        say(&names[from..to]);
-    }
-}
-
-fn print_number(n: u64) {
-    say(b" ");
-    io::print_decimal(STDOUT_FILENO, n);
-}
-
-fn print_case(case: &[u8]) {
-    say(b" case");
-    for i in 0..96 {
-        print_number(byte(case, i) as u64);
-    }
-}
-
-fn print_disagreement(case: &[u8], x: Answer) {
-    say(b"DISAGREES ");
-    print_name(byte(case, 0) as usize);
-    print_case(case);
-    say(b" answer");
-    print_number(x.tag as u64);
-    print_number(x.number as u64);
-    print_number(x.a);
-    print_number(x.b);
-    print_number(x.c);
-    if x.kept {
-        say(b" kept\n");
-    } else {
-        say(b" lost\n");
-    }
-}
-
-// The answer is the one that stands in the case.
-fn agrees(case: &[u8], x: Answer) -> bool {
-    if x.tag != byte(case, 48) {
-        return false;
-    }
-    if x.number != byte(case, 49) {
-        return false;
-    }
-    if x.a != word(case, 56, 8) {
-        return false;
-    }
-    if !x.kept {
-        return false;
-    }
-    let kind = byte(case, 0);
+// How many numbers of an answer the case has: a writer's room stands where the others would, and a float's bits.
+fn values_of(kind: u8) -> usize {
     match kind {
-        3 | 4 | 6 | 9 | 10 | 13 | 15 => true,
-        _ => x.b == word(case, 64, 8) && x.c == word(case, 72, 8),
+        3 | 4 | 6 | 9 | 10 | 13 | 15 => 1,
+        _ => 3,
     }
 }
 
-fn judged(case: &[u8]) -> bool {
-    let x = answered(case);
-    if agrees(case, x) {
-        return true;
-    }
-    print_disagreement(case, x);
-    false
-}
-
-fn print_count(kind: usize, agreed: u64, disagreed: u64) {
-    print_name(kind);
-    print_number(agreed);
-    say(b" agreed,");
-    print_number(disagreed);
-    say(b" disagreed\n");
-}
-
-// How many cases of each kind agreed, and how many did not.
-pub struct Counts {
-    pub agreed: [u64; 32],
-    pub disagreed: [u64; 32],
-}
-
-fn counted(counts: Counts, kind: u8, ok: bool) -> Counts {
-    let at = (kind % 32) as usize;
-    let mut next = counts;
-    if ok {
-        next.agreed[at] = std::num::wrapping_add_u64(next.agreed[at], 1);
-    } else {
-        next.disagreed[at] = std::num::wrapping_add_u64(next.disagreed[at], 1);
-    }
-    next
-}
-
-fn with_case(counts: Counts, case: &[u8; 96]) -> Counts {
-    counted(counts, case[0], judged(&case[..]))
+fn with_case(counts: Counts, case: &[u8]) -> Counts {
+    let names = NAMES;
+    let kind = byte(case, 0);
+    counted(
+        counts,
+        kind,
+        judged(&names, 16, case, 48, 0, answered(case), values_of(kind)),
+    )
 }
 
 fn run_all() -> Counts {
-    let mut counts = Counts {
-        agreed: [0u64; 32],
-        disagreed: [0u64; 32],
-    };
+    let mut counts = none();
     let most: usize = 100000;
     for _ in 0..most {
         let mut case = [0u8; 96];
-        if io::read_full(STDIN_FILENO, &mut case) < 96 {
+        if !read(STDIN_FILENO, &mut case) {
             return counts;
         }
         counts = with_case(counts, &case);
@@ -516,12 +343,7 @@ fn run_all() -> Counts {
     counts
 }
 
-fn print_all(counts: Counts) {
-    for kind in 1..19 {
-        print_count(kind, counts.agreed[kind], counts.disagreed[kind]);
-    }
-}
-
 fn main() {
-    print_all(run_all());
+    let names = NAMES;
+    print_counts(run_all(), &names, 16);
 }

@@ -3,13 +3,25 @@
 // get, and from 112 on the room at exit. A header's case is followed by the header, and its prefixes are judged one by one. Prints how
 // many cases of each kind agreed, and how many prefixes, and each disagreement whole.
 use calendar::Date;
-use calendar::Refusal;
+use cases::answer::Answer;
+use cases::answer::judged;
+use cases::answer::refused;
+use cases::answer::value;
+use cases::answer::written;
+use cases::counts::Counts;
+use cases::counts::counted;
+use cases::counts::none;
+use cases::counts::print_counts;
+use cases::input::byte;
+use cases::input::fitting;
+use cases::input::is_same;
+use cases::input::part;
+use cases::input::read;
+use cases::input::word;
 use libc::STDIN_FILENO;
-use libc::STDOUT_FILENO;
 use meter::general::General;
 use meter::general::Moment;
 use meter::integer::Signed;
-use meter::integer::Unsigned;
 use meter::integer::Written;
 use mphr::faults::HeaderFault;
 use mphr::layout::FieldPlace;
@@ -29,60 +41,10 @@ field_place         \
 header_fault        \
 prefixes            ";
 
-// What an answer says, flattened: its tag (0 a value, 1 a refusal), a refusal's number, up to three numbers, and whether the room is
-// as it should be.
-pub struct Answer {
-    pub tag: u8,
-    pub number: u8,
-    pub a: u64,
-    pub b: u64,
-    pub c: u64,
-    pub kept: bool,
-}
-
-// ---- the bytes of a case, 0 beyond its end
-fn byte(case: &[u8], at: usize) -> u8 {
-    if at < case.len() { case[at] } else { 0 }
-}
-
-fn word(case: &[u8], at: usize, n: usize) -> u64 {
-    match meter::integer::read_unsigned(case, at, n) {
-        Unsigned::Value(v) => v,
-        Unsigned::Refused(_) => 0,
-    }
-}
-
-// ---- answers
-fn value(a: u64, b: u64, c: u64, kept: bool) -> Answer {
-    Answer {
-        tag: 0,
-        number: 0,
-        a,
-        b,
-        c,
-        kept,
-    }
-}
-
-fn refused(r: Refusal, kept: bool) -> Answer {
-    Answer {
-        tag: 1,
-        number: r.number,
-        a: r.place as u64,
-        b: 0,
-        c: 0,
-        kept,
-    }
-}
-
 // ---- what is handed in
 // The text or name: its length at 2, its bytes from 8 on.
 fn lent(case: &[u8]) -> &[u8] {
-    if case.len() < 80 {
-        return case;
-    }
-    let end = 8 + (byte(case, 2) % 73) as usize;
-    &case[8..end]
+    part(case, 8, byte(case, 2) as usize)
 }
 
 fn number_in(case: &[u8]) -> Number {
@@ -113,7 +75,7 @@ fn time_in(case: &[u8]) -> General {
     })
 }
 
-// ---- the cases, by their kinds; a room is the first n bytes of 104
+// ---- the cases, by their kinds
 fn write_into(case: &[u8], room: &mut [u8]) -> Written {
     let k = word(case, 4, 4) as usize;
     let kind = byte(case, 0);
@@ -124,33 +86,16 @@ fn write_into(case: &[u8], room: &mut [u8]) -> Written {
     }
 }
 
-// The first bytes of the room are lent.
-fn write_part(case: &[u8], room: &mut [u8]) -> Written {
-    let n = (byte(case, 1) % 105) as usize;
-    if n <= room.len() {
-        return write_into(case, &mut room[..n]);
-    }
-    Written::Bytes(0)
-}
-
-// The room holds at exit what the case says.
-fn kept(case: &[u8], room: &[u8; 104]) -> bool {
-    for i in 0..104 {
-        if room[i] != byte(case, 112 + i) {
-            return false;
-        }
-    }
-    true
+// The first bytes of the room are lent, as many as the case says; at exit the room is what the case has from byte 112 on.
+fn write_in(case: &[u8], room: &mut [u8]) -> Answer {
+    let n = fitting(byte(case, 1) as usize, room);
+    let w = write_into(case, &mut room[..n]);
+    written(w, is_same(room, case, 112))
 }
 
 fn run_writer(case: &[u8]) -> Answer {
     let mut room = [0xaau8; 104];
-    let w = write_part(case, &mut room);
-    let same = kept(case, &room);
-    match w {
-        Written::Bytes(n) => value(n as u64, 0, 0, same),
-        Written::Refused(r) => refused(r, same),
-    }
+    write_in(case, &mut room)
 }
 
 fn place_value(p: Place) -> Answer {
@@ -163,14 +108,14 @@ fn place_value(p: Place) -> Answer {
         Kind::Time => 4,
         Kind::LongTime => 5,
     };
-    value(p.start as u64, p.width as u64, c, true)
+    value(p.start as u64, p.width as u64, c)
 }
 
 fn answered(case: &[u8]) -> Answer {
     let kind = byte(case, 0);
     match kind {
         4 => match mphr::names::field_named(lent(case)) {
-            FieldNumber::Field(k) => value(k as u64, 0, 0, true),
+            FieldNumber::Field(k) => value(k as u64, 0, 0),
             FieldNumber::Refused(r) => refused(r, true),
         },
         5 => match mphr::layout::field_place(word(case, 4, 4) as usize) {
@@ -181,109 +126,22 @@ fn answered(case: &[u8]) -> Answer {
     }
 }
 
-// ---- what is printed
-fn say(text: &[u8]) {
-    io::write_all(STDOUT_FILENO, text);
-}
-
-fn print_name(kind: usize) {
+// The answer is the one that stands in the case from `at` on; n is the length of a header's prefix, else 0.
+fn agreed(case: &[u8], at: usize, x: Answer, n: usize) -> bool {
     let names = NAMES;
-    if kind < 8 {
-        let from = kind * 20;
-        let to = from + 20;
-        say(&names[from..to]);
-    }
-}
-
-fn print_number(n: u64) {
-    say(b" ");
-    io::print_decimal(STDOUT_FILENO, n);
-}
-
-fn print_case(case: &[u8]) {
-    say(b" case");
-    for i in 0..216 {
-        print_number(byte(case, i) as u64);
-    }
-}
-
-// n is the length of a header's prefix, else 0.
-fn print_disagreement(case: &[u8], x: Answer, n: usize) {
-    say(b"DISAGREES ");
-    print_name(byte(case, 0) as usize);
-    print_number(n as u64);
-    print_case(case);
-    say(b" answer");
-    print_number(x.tag as u64);
-    print_number(x.number as u64);
-    print_number(x.a);
-    print_number(x.b);
-    print_number(x.c);
-    if x.kept {
-        say(b" kept\n");
-    } else {
-        say(b" lost\n");
-    }
-}
-
-// The answer is the one that stands in the case from `at` on.
-fn agrees(case: &[u8], at: usize, x: Answer) -> bool {
-    if at > 112 {
-        return false;
-    }
-    if x.tag != byte(case, at) {
-        return false;
-    }
-    if x.number != byte(case, at + 1) {
-        return false;
-    }
-    if x.a != word(case, at + 8, 8) {
-        return false;
-    }
-    if x.b != word(case, at + 16, 8) {
-        return false;
-    }
-    x.c == word(case, at + 24, 8) && x.kept
-}
-
-fn judged(case: &[u8], at: usize, x: Answer, n: usize) -> bool {
-    if agrees(case, at, x) {
-        return true;
-    }
-    print_disagreement(case, x, n);
-    false
-}
-
-// How many cases of each kind agreed, and how many did not.
-pub struct Counts {
-    pub agreed: [u64; 8],
-    pub disagreed: [u64; 8],
-}
-
-fn counted(counts: Counts, kind: u8, ok: bool) -> Counts {
-    let at = (kind % 8) as usize;
-    let mut next = counts;
-    if ok {
-        next.agreed[at] = std::num::wrapping_add_u64(next.agreed[at], 1);
-    } else {
-        next.disagreed[at] = std::num::wrapping_add_u64(next.disagreed[at], 1);
-    }
-    next
+    judged(&names, 20, case, at, n, x, 3)
 }
 
 // ---- headers: the refusal at 80 is due from the arrival length at 4 on, and before it the answer at 112
 fn prefix_agrees(case: &[u8], header: &[u8], n: usize) -> bool {
-    if n > header.len() {
-        return false;
-    }
-    let x = match mphr::faults::header_fault(&header[..n]) {
-        HeaderFault::Clean => value(0, 0, 0, true),
+    let x = match mphr::faults::header_fault(part(header, 0, n)) {
+        HeaderFault::Clean => value(0, 0, 0),
         HeaderFault::Refused(r) => refused(r, true),
     };
     if (n as u64) < word(case, 4, 4) {
-        return judged(case, 112, x, n);
+        return agreed(case, 112, x, n);
     }
-    judged(case, 80, x, n)
+    agreed(case, 80, x, n)
 }
 
 // Every prefix of the header, the empty one and the whole one too.
@@ -301,7 +159,7 @@ fn with_prefixes(counts: Counts, case: &[u8], header: &[u8]) -> Counts {
 
 fn with_header(counts: Counts, case: &[u8]) -> Counts {
     let mut header = [0u8; 3307];
-    if io::read_full(STDIN_FILENO, &mut header) < 3307 {
+    if !read(STDIN_FILENO, &mut header) {
         return counted(counts, 6, false);
     }
     let before = counts.disagreed[7];
@@ -315,18 +173,15 @@ fn with_case(counts: Counts, case: &[u8]) -> Counts {
     if kind == 6 {
         return with_header(counts, case);
     }
-    counted(counts, kind, judged(case, 80, answered(case), 0))
+    counted(counts, kind, agreed(case, 80, answered(case), 0))
 }
 
 fn run_all() -> Counts {
-    let mut counts = Counts {
-        agreed: [0u64; 8],
-        disagreed: [0u64; 8],
-    };
+    let mut counts = none();
     let most: usize = 100000;
     for _ in 0..most {
         let mut case = [0u8; 216];
-        if io::read_full(STDIN_FILENO, &mut case) < 216 {
+        if !read(STDIN_FILENO, &mut case) {
             return counts;
         }
         counts = with_case(counts, &case);
@@ -334,16 +189,7 @@ fn run_all() -> Counts {
     counts
 }
 
-fn print_all(counts: Counts) {
-    for kind in 1..8 {
-        print_name(kind);
-        print_number(counts.agreed[kind]);
-        say(b" agreed,");
-        print_number(counts.disagreed[kind]);
-        say(b" disagreed\n");
-    }
-}
-
 fn main() {
-    print_all(run_all());
+    let names = NAMES;
+    print_counts(run_all(), &names, 20);
 }

@@ -1,12 +1,24 @@
 // Runs the header vectors, pointer records and the follow table on `record`. A case is 96 bytes of standard input (tools/header-cases
 // writes them): byte 0 its kind, then what is handed in, and from byte 48 on the answer that it should get. Prints how many cases
 // of each kind agreed, and each disagreement whole.
+use cases::answer::Answer;
+use cases::answer::judged;
+use cases::answer::refused;
+use cases::answer::values;
+use cases::answer::written;
+use cases::counts::Counts;
+use cases::counts::counted;
+use cases::counts::none;
+use cases::counts::print_counts;
+use cases::input::byte;
+use cases::input::fitting;
+use cases::input::is_same;
+use cases::input::part;
+use cases::input::read;
+use cases::input::word;
 use libc::STDIN_FILENO;
-use libc::STDOUT_FILENO;
-use meter::integer::Unsigned;
 use meter::integer::Written;
 use meter::time::Time;
-use record::Refusal;
 use record::header::Header;
 use record::header::HeaderRead;
 use record::pointer::Pointer;
@@ -21,58 +33,7 @@ read_pointer    \
 write_pointer   \
 may_follow      ";
 
-// What an answer says, flattened: its tag (0 a value, 1 a refusal), a refusal's number, up to five numbers, and whether the room is
-// as it should be.
-pub struct Answer {
-    pub tag: u8,
-    pub number: u8,
-    pub a: u64,
-    pub b: u64,
-    pub c: u64,
-    pub d: u64,
-    pub e: u64,
-    pub kept: bool,
-}
-
-// ---- the bytes of a case, 0 beyond its end
-fn byte(case: &[u8], at: usize) -> u8 {
-    if at < case.len() { case[at] } else { 0 }
-}
-
-fn word(case: &[u8], at: usize, n: usize) -> u64 {
-    match meter::integer::read_unsigned(case, at, n) {
-        Unsigned::Value(v) => v,
-        Unsigned::Refused(_) => 0,
-    }
-}
-
 // ---- answers
-fn value(a: u64, b: u64, c: u64, d: u64, e: u64) -> Answer {
-    Answer {
-        tag: 0,
-        number: 0,
-        a,
-        b,
-        c,
-        d,
-        e,
-        kept: true,
-    }
-}
-
-fn refused(r: Refusal, kept: bool) -> Answer {
-    Answer {
-        tag: 1,
-        number: r.number,
-        a: r.place as u64,
-        b: 0,
-        c: 0,
-        d: 0,
-        e: 0,
-        kept,
-    }
-}
-
 fn time_value(t: Time) -> u64 {
     match t {
         Time::Undefined => 0xffff_ffff_ffff,
@@ -88,7 +49,7 @@ fn header_value(h: Header, e: u64) -> Answer {
     let lead = triple(h.class, h.group, h.subclass);
     let start = h.start;
     let stop = h.stop;
-    value(
+    values(
         (lead % 0x1_000000) * 256 + (h.version as u64),
         h.size as u64,
         time_value(start),
@@ -106,11 +67,7 @@ fn pointer_value(p: Pointer) -> Answer {
 // ---- what is handed in
 // The bytes of a reader: their number at 1, themselves from 4 on.
 fn lent(case: &[u8]) -> &[u8] {
-    if case.len() < 48 {
-        return case;
-    }
-    let end = 4 + (byte(case, 1) % 45) as usize;
-    &case[4..end]
+    part(case, 4, byte(case, 1) as usize)
 }
 
 fn time_in(case: &[u8], at: usize) -> Time {
@@ -147,7 +104,7 @@ fn pointer_in(case: &[u8]) -> Pointer {
     }
 }
 
-// ---- the cases, by their kinds; a room is the first n bytes of 32
+// ---- the cases, by their kinds
 fn run_read_header(case: &[u8]) -> Answer {
     match record::header::read_header(lent(case), byte(case, 2) as usize) {
         HeaderRead::Header(h) => header_value(h, 0),
@@ -164,9 +121,9 @@ fn run_read_pointer(case: &[u8]) -> Answer {
 
 fn run_may_follow(case: &[u8]) -> Answer {
     if record::follow::may_follow(byte(case, 4), byte(case, 5)) {
-        value(1, 0, 0, 0, 0)
+        values(1, 0, 0, 0, 0)
     } else {
-        value(0, 0, 0, 0, 0)
+        values(0, 0, 0, 0, 0)
     }
 }
 
@@ -178,42 +135,16 @@ fn write_into(case: &[u8], room: &mut [u8]) -> Written {
     }
 }
 
-// The first bytes of the room are lent.
-fn write_part(case: &[u8], room: &mut [u8]) -> Written {
-    let n = (byte(case, 1) % 33) as usize;
-    if n <= room.len() {
-        return write_into(case, &mut room[..n]);
-    }
-    Written::Bytes(0)
-}
-
-// The room holds at exit what the case says.
-fn kept(case: &[u8], room: &[u8; 32]) -> bool {
-    for i in 0..32 {
-        if room[i] != byte(case, 64 + i) {
-            return false;
-        }
-    }
-    true
+// The first bytes of the room are lent, as many as the case says; at exit the room is what the case has from byte 64 on.
+fn write_in(case: &[u8], room: &mut [u8]) -> Answer {
+    let n = fitting(byte(case, 1) as usize, room);
+    let w = write_into(case, &mut room[..n]);
+    written(w, is_same(room, case, 64))
 }
 
 fn run_writer(case: &[u8]) -> Answer {
     let mut room = [0xaau8; 32];
-    let w = write_part(case, &mut room);
-    let same = kept(case, &room);
-    match w {
-        Written::Bytes(n) => Answer {
-            tag: 0,
-            number: 0,
-            a: n as u64,
-            b: 0,
-            c: 0,
-            d: 0,
-            e: 0,
-            kept: same,
-        },
-        Written::Refused(r) => refused(r, same),
-    }
+    write_in(case, &mut room)
 }
 
 fn answered(case: &[u8]) -> Answer {
@@ -226,124 +157,30 @@ fn answered(case: &[u8]) -> Answer {
     }
 }
 
-// ---- what is printed
-fn say(text: &[u8]) {
-    io::write_all(STDOUT_FILENO, text);
-}
-
-fn print_name(kind: usize) {
-    let names = NAMES;
-    if kind < 6 {
-        let from = kind * 16;
-        let to = from + 16;
-        say(&names[from..to]);
-    }
-}
-
-fn print_number(n: u64) {
-    say(b" ");
-    io::print_decimal(STDOUT_FILENO, n);
-}
-
-fn print_case(case: &[u8]) {
-    say(b" case");
-    for i in 0..96 {
-        print_number(byte(case, i) as u64);
-    }
-}
-
-fn print_disagreement(case: &[u8], x: Answer) {
-    say(b"DISAGREES ");
-    print_name(byte(case, 0) as usize);
-    print_case(case);
-    say(b" answer");
-    print_number(x.tag as u64);
-    print_number(x.number as u64);
-    print_number(x.a);
-    print_number(x.b);
-    print_number(x.c);
-    print_number(x.d);
-    print_number(x.e);
-    if x.kept {
-        say(b" kept\n");
-    } else {
-        say(b" lost\n");
-    }
-}
-
-// The answer is the one that stands in the case; a writer's room stands where the other numbers would.
-fn agrees(case: &[u8], x: Answer) -> bool {
-    if x.tag != byte(case, 48) {
-        return false;
-    }
-    if x.number != byte(case, 49) {
-        return false;
-    }
-    if x.a != word(case, 56, 8) {
-        return false;
-    }
-    let kind = byte(case, 0);
+// How many numbers of an answer the case has: a writer's room stands where the others would.
+fn values_of(kind: u8) -> usize {
     match kind {
-        2 | 4 => x.kept,
-        _ => {
-            if x.b != word(case, 64, 8) {
-                return false;
-            }
-            if x.c != word(case, 72, 8) {
-                return false;
-            }
-            x.d == word(case, 80, 8) && x.e == word(case, 88, 8)
-        }
+        2 | 4 => 1,
+        _ => 5,
     }
 }
 
-fn judged(case: &[u8]) -> bool {
-    let x = answered(case);
-    if agrees(case, x) {
-        return true;
-    }
-    print_disagreement(case, x);
-    false
-}
-
-fn print_count(kind: usize, agreed: u64, disagreed: u64) {
-    print_name(kind);
-    print_number(agreed);
-    say(b" agreed,");
-    print_number(disagreed);
-    say(b" disagreed\n");
-}
-
-// How many cases of each kind agreed, and how many did not.
-pub struct Counts {
-    pub agreed: [u64; 8],
-    pub disagreed: [u64; 8],
-}
-
-fn counted(counts: Counts, kind: u8, ok: bool) -> Counts {
-    let at = (kind % 8) as usize;
-    let mut next = counts;
-    if ok {
-        next.agreed[at] = std::num::wrapping_add_u64(next.agreed[at], 1);
-    } else {
-        next.disagreed[at] = std::num::wrapping_add_u64(next.disagreed[at], 1);
-    }
-    next
-}
-
-fn with_case(counts: Counts, case: &[u8; 96]) -> Counts {
-    counted(counts, case[0], judged(&case[..]))
+fn with_case(counts: Counts, case: &[u8]) -> Counts {
+    let names = NAMES;
+    let kind = byte(case, 0);
+    counted(
+        counts,
+        kind,
+        judged(&names, 16, case, 48, 0, answered(case), values_of(kind)),
+    )
 }
 
 fn run_all() -> Counts {
-    let mut counts = Counts {
-        agreed: [0u64; 8],
-        disagreed: [0u64; 8],
-    };
+    let mut counts = none();
     let most: usize = 100000;
     for _ in 0..most {
         let mut case = [0u8; 96];
-        if io::read_full(STDIN_FILENO, &mut case) < 96 {
+        if !read(STDIN_FILENO, &mut case) {
             return counts;
         }
         counts = with_case(counts, &case);
@@ -351,12 +188,7 @@ fn run_all() -> Counts {
     counts
 }
 
-fn print_all(counts: Counts) {
-    for kind in 1..6 {
-        print_count(kind, counts.agreed[kind], counts.disagreed[kind]);
-    }
-}
-
 fn main() {
-    print_all(run_all());
+    let names = NAMES;
+    print_counts(run_all(), &names, 16);
 }

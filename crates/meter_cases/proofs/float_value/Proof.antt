@@ -30,13 +30,19 @@ returns c = search needs
 float-from-bits-want : tie.Need-float-from-bits-want
 float-from-bits-want c = number (c .before .word .result) (c .if1 .left)
 
+tagged-requires-2 : tie.Need-tagged-requires-2
+tagged-requires-2 c κs = search needs
+
 returns-2 : tie.Need-returns-2
 returns-2 c = search needs
-
-returns-3 : tie.Need-returns-3
-returns-3 c = search needs
 
 pub float-value-spec : {M : Type 1} → statement M
 float-value-spec =
     tie.close
-    (tie.spec word-requires tagged-requires returns float-from-bits-want returns-2 returns-3)
+    (tie.spec
+    word-requires
+    tagged-requires
+    returns
+    float-from-bits-want
+    tagged-requires-2
+    returns-2)

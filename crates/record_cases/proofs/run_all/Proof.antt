@@ -1,8 +1,8 @@
 -- `record_cases::run_all` is safe and ends: at most 100,000 cases are read. Assumes nothing.
-use Prim.Native.Nat.{ℕ, _≤_, _-_}
+use Prim.Native.Nat.{_≤_, _-_}
+use borrow.Author.Needs.{needs}
 use Rattle.record_cases.proofs.run_all.Statement.{statement}
 use Rattle.record_cases.proofs.run_all.Tie as tie
-use borrow.Author.Needs.{needs}
 
 abbrev Inv-loop : tie.InvT-loop
 Inv-loop counts₀ most counter₀ counts counter = counter ≤ 100000
@@ -10,17 +10,23 @@ Inv-loop counts₀ most counter₀ counts counter = counter ≤ 100000
 abbrev μ-loop : tie.MeasureT-loop
 μ-loop counts₀ most counter₀ counts counter = 100000 - counter
 
+none-requires : tie.Need-none-requires Inv-loop μ-loop
+none-requires c κs = search needs
+
 loop-holds : tie.Need-loop-holds Inv-loop μ-loop
 loop-holds c = search needs
 
-slice-aggregate-read-full : tie.Need-slice-aggregate-read-full Inv-loop μ-loop
-slice-aggregate-read-full c = search needs
+slice-aggregate-read : tie.Need-slice-aggregate-read Inv-loop μ-loop
+slice-aggregate-read c = search needs
 
-read-full-requires : tie.Need-read-full-requires Inv-loop μ-loop
-read-full-requires c κs = search needs
+read-requires : tie.Need-read-requires Inv-loop μ-loop
+read-requires c κs = search needs
 
 returns : tie.Need-returns Inv-loop μ-loop
 returns c = search needs
+
+slice-aggregate-with-case : tie.Need-slice-aggregate-with-case Inv-loop μ-loop
+slice-aggregate-with-case c = search needs
 
 with-case-requires : tie.Need-with-case-requires Inv-loop μ-loop
 with-case-requires c κs = search needs
@@ -43,10 +49,12 @@ run-all-spec =
     (tie.spec
     Inv-loop
     μ-loop
+    none-requires
     loop-holds
-    slice-aggregate-read-full
-    read-full-requires
+    slice-aggregate-read
+    read-requires
     returns
+    slice-aggregate-with-case
     with-case-requires
     add-counter
     loop-less

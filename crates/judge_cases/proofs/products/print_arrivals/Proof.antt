@@ -12,8 +12,8 @@ Inv-loop bytes last₀ n₀ last n = n ≤ length bytes
 abbrev μ-loop : tie.MeasureT-loop
 μ-loop bytes last₀ n₀ last n = length bytes - n
 
-first-requires : tie.Need-first-requires Inv-loop μ-loop
-first-requires c κs = search needs
+part-requires : tie.Need-part-requires Inv-loop μ-loop
+part-requires c κs = search needs
 
 judge-arrival-requires : tie.Need-judge-arrival-requires Inv-loop μ-loop
 judge-arrival-requires c κs = search needs
@@ -27,8 +27,8 @@ loop-holds c = search needs
 add-n : tie.Need-add-n Inv-loop μ-loop
 add-n c = search needs
 
-first-requires-2 : tie.Need-first-requires-2 Inv-loop μ-loop
-first-requires-2 c κs = search needs
+part-requires-2 : tie.Need-part-requires-2 Inv-loop μ-loop
+part-requires-2 c κs = search needs
 
 judge-arrival-requires-2 : tie.Need-judge-arrival-requires-2 Inv-loop μ-loop
 judge-arrival-requires-2 c κs = search needs
@@ -60,12 +60,12 @@ print-arrivals-spec =
     (tie.spec
     Inv-loop
     μ-loop
-    first-requires
+    part-requires
     judge-arrival-requires
     print-at-requires
     loop-holds
     add-n
-    first-requires-2
+    part-requires-2
     judge-arrival-requires-2
     same-requires
     print-at-requires-2

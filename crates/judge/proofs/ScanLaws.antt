@@ -109,26 +109,26 @@ less h z = omega arith
 pub pointer-room : {a : List ℕ} {e lo hi k : ℕ} {q : Site} → Started a e → Points a e lo hi k q → q .at + 27 ≤ e
 pointer-room g w = omega (arith, ends-by (w .way) (g .way) (w .before), w .sound .ipr (w .ipr))
 
-module _ {a : List ℕ} {w : Pointers} {to d q : ℕ} (k : Search a w to d) (e : d ≡ declared a) (f : FirstPointer a (w .end) to d any q) where
-  cursor : Scan a (w .end) to (declared a) any (w .from)
+module _ {a : List ℕ} {from end : ℕ} {rising : Bool} {to d q : ℕ} (k : Search a from end rising to d) (e : d ≡ declared a) (f : FirstPointer a end to d any q) where
+  cursor : Scan a end to (declared a) any from
   cursor = scan-narrow (le-refl _) (omega arith) (k .cursor)
 
-  abbrev goal : Started a (w .end)
+  abbrev goal : Started a end
   goal = k .cursor .goal
 
   -- no pointer that is looked for is left
-  pub follow-none : q ≡ 0 → Scan a (w .end) to (declared a) any (w .end)
+  pub follow-none : q ≡ 0 → Scan a end to (declared a) any end
   follow-none z = record { count = goal .count; prev = goal .prev; tally = goal .tally; way = goal .way; goal = goal; ahead = here; rest = λ p v. absurd (f .none z p (bounded v (v .before) (v .above) (omega (arith, v .below)))) }
 
   pub follow-room : (q ≡ 0 → ⊥) → q + 27 ≤ length a
   follow-room n = let v = f .some n in omega (arith, v .1, pointer-room goal (v .2), goal .come)
 
   -- the first that is looked for is at q
-  pub follow-cursor : (q ≡ 0 → ⊥) → Scan a (w .end) to (declared a) any q
+  pub follow-cursor : (q ≡ 0 → ⊥) → Scan a end to (declared a) any q
   follow-cursor n =
       let v = f .some n in
       let x = v .0 in
-      let y : Scan a (w .end) to (declared a) any (x .at) = record {
+      let y : Scan a end to (declared a) any (x .at) = record {
         count = x .count;
         prev = x .prev;
         tally = x .tally;
@@ -139,7 +139,7 @@ module _ {a : List ℕ} {w : Pointers} {to d q : ℕ} (k : Search a w to d) (e :
       } in
       rw (v .1) at y
 
-  pub follow-quiet : w .rising ≡ true → (q ≡ 0 → ⊥) → {due : ℕ} → due ≡ offsetAt a q → Quiet a (w .end) to due any
+  pub follow-quiet : rising ≡ true → (q ≡ 0 → ⊥) → {due : ℕ} → due ≡ offsetAt a q → Quiet a end to due any
   follow-quiet r n {due} h p u =
       let v = f .some n in
       let x = v .0 in
@@ -238,7 +238,7 @@ module _ {a : List ℕ} {n i p : ℕ} {t : List ℕ} (way : Leads a first (site 
       }
 
 -- ---- what a settling asks
-pub searching : {a : List ℕ} {w : Pointers} {i to d : ℕ} → Settling a w i to d → {lo hi : ℕ} → i ≤ lo → hi ≤ d → Search a w lo hi
+pub searching : {a : List ℕ} {w : Pointers} {i to d : ℕ} → Settling a w i to d → {lo hi : ℕ} → i ≤ lo → hi ≤ d → Search a (w .from) (w .end) (w .rising) lo hi
 searching k l h = record { cursor = scan-narrow l (omega (arith, k .d-is)) (k .kept .cursor); order = λ r. k .kept .order r .rising }
 
 -- nothing is due: the pointers stay as they are

@@ -163,9 +163,9 @@ pub record Kept (a : List ℕ) (i : ℕ) (w : Pointers) : Type 0 where
   pub order : w .rising ≡ true → Order a (w .end) (w .last)
 
 -- what a search asks: it is for targets from lo on, none of which is past D
-pub record Search (a : List ℕ) (w : Pointers) (lo hi : ℕ) : Type 0 where
-  pub cursor : Scan a (w .end) lo hi any (w .from)
-  pub order : w .rising ≡ true → Rising a (w .end)
+pub record Search (a : List ℕ) (from end : ℕ) (rising : Bool) (lo hi : ℕ) : Type 0 where
+  pub cursor : Scan a end lo hi any from
+  pub order : rising ≡ true → Rising a end
 
 -- what is asked of a record from byte i up to `to`
 pub record Settling (a : List ℕ) (w : Pointers) (i to d : ℕ) : Type 0 where

@@ -87,14 +87,22 @@ fn look_at(s: &[u8], q: usize, lo: usize, hi: usize, kind: usize, rising: bool) 
     Look::Found
 }
 
-// The first such pointer, or 0, where no pointer stands. It is looked for from the cursor on.
-fn pointer(s: &[u8], w: Pointers, lo: usize, hi: usize, kind: usize) -> usize
-    requires { ⌜ Search (now s) w lo hi ⌝ }
-    ensures { λ r. ⌜ FirstPointer (now (s .entry)) (w .end) lo hi kind r ⌝ }
+// The first such pointer up to `end`, or 0, where no pointer stands. It is looked for from the cursor on.
+fn pointer(
+    s: &[u8],
+    from: usize,
+    end: usize,
+    rising: bool,
+    lo: usize,
+    hi: usize,
+    kind: usize,
+) -> usize
+    requires { ⌜ Search (now s) from end rising lo hi ⌝ }
+    ensures { λ r. ⌜ FirstPointer (now (s .entry)) end lo hi kind r ⌝ }
 {
-    let mut q: usize = w.from;
-    while q < w.end {
-        match look_at(s, q, lo, hi, kind, w.rising) {
+    let mut q: usize = from;
+    while q < end {
+        match look_at(s, q, lo, hi, kind, rising) {
             Look::Found => {
                 return q;
             }
@@ -114,7 +122,7 @@ fn pointer(s: &[u8], w: Pointers, lo: usize, hi: usize, kind: usize) -> usize
 
 // The pointers, once those that point before `to` are done with. Where their targets are in no order the next record has to look too.
 fn follow(s: &[u8], w: Pointers, to: usize, d: usize) -> Pointers
-    requires { ⌜ Search (now s) w to d × (d ≡ declared (now s)) ⌝ }
+    requires { ⌜ Search (now s) (w .from) (w .end) (w .rising) to d × (d ≡ declared (now s)) ⌝ }
     ensures { λ r. ⌜ Follows (now (s .entry)) w to r ⌝ }
 {
     let mut v = w;
@@ -122,7 +130,7 @@ fn follow(s: &[u8], w: Pointers, to: usize, d: usize) -> Pointers
         v.due = to;
         return v;
     }
-    let q = pointer(s, w, to, d, ANY);
+    let q = pointer(s, w.from, w.end, w.rising, to, d, ANY);
     if q == 0 {
         v.due = d;
         v.from = w.end;
@@ -141,11 +149,11 @@ pub(crate) fn settle(s: &[u8], w: Pointers, at: usize, to: usize, d: usize) -> S
     if to <= w.due {
         return Settled::Clear(w);
     }
-    let inside = pointer(s, w, at + 1, to, ANY);
+    let inside = pointer(s, w.from, w.end, w.rising, at + 1, to, ANY);
     if inside != 0 {
         return Settled::Inside(inside);
     }
-    let other = pointer(s, w, at, at + 1, triple(s, at));
+    let other = pointer(s, w.from, w.end, w.rising, at, at + 1, triple(s, at));
     if other != 0 {
         return Settled::Other(other);
     }

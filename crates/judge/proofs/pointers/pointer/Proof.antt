@@ -16,34 +16,34 @@ use Rattle.judge.proofs.pointers.pointer.Statement.{statement}
 use Rattle.judge.proofs.pointers.pointer.Tie as tie
 
 abbrev Inv-loop : tie.InvT-loop
-Inv-loop s w lo hi kind q₀ q = Scan s (w .end) lo hi kind q
+Inv-loop s from end rising lo hi kind q₀ q = Scan s end lo hi kind q
 
 abbrev μ-loop : tie.MeasureT-loop
-μ-loop s w lo hi kind q₀ q = w .end - q
+μ-loop s from end rising lo hi kind q₀ q = end - q
 
-abbrev St : tie.Then1 Inv-loop μ-loop → tie.Start Inv-loop μ-loop
-St c = c .before .before .before .before
+abbrev St : tie.In-loop Inv-loop μ-loop → tie.Start Inv-loop μ-loop
+St c = c .before .before .before
 
-abbrev q : tie.Then1 Inv-loop μ-loop → ℕ
-q c = c .before .before .loop .q
+abbrev q : tie.In-loop Inv-loop μ-loop → ℕ
+q c = c .before .loop .q
 
-abbrev scan : (c : tie.Then1 Inv-loop μ-loop) → Scan (now (St c .args .s)) (St c .args .w .end) (St c .args .lo) (St c .args .hi) (St c .args .kind) (q c)
-scan c = c .before .before .loop .inv
+abbrev scan : (c : tie.In-loop Inv-loop μ-loop) → Scan (now (St c .args .s)) (St c .args .end) (St c .args .lo) (St c .args .hi) (St c .args .kind) (q c)
+scan c = c .before .loop .inv
 
-told : (c : tie.After-look-at Inv-loop μ-loop) (r : Look) → c .look-at .result ≡ r → LookIs (now (St (c .before) .args .s)) (q (c .before)) (St (c .before) .args .lo) (St (c .before) .args .hi) (St (c .before) .args .kind) (St (c .before) .args .w .rising) r
-told c r e = subst (LookIs (now (St (c .before) .args .s)) (q (c .before)) (St (c .before) .args .lo) (St (c .before) .args .hi) (St (c .before) .args .kind) (St (c .before) .args .w .rising)) e (c .look-at .ensures)
+told : (c : tie.After-look-at Inv-loop μ-loop) (r : Look) → c .look-at .result ≡ r → LookIs (now (St (c .before) .args .s)) (q (c .before)) (St (c .before) .args .lo) (St (c .before) .args .hi) (St (c .before) .args .kind) (St (c .before) .args .rising) r
+told c r e = subst (LookIs (now (St (c .before) .args .s)) (q (c .before)) (St (c .before) .args .lo) (St (c .before) .args .hi) (St (c .before) .args .kind) (St (c .before) .args .rising)) e (c .look-at .ensures)
 
 loop-holds : tie.Need-loop-holds Inv-loop μ-loop
 loop-holds c = scan-narrow (le-refl _) (le-refl _) (c .before .pre .cursor)
 
 look-at-requires : tie.Need-look-at-requires Inv-loop μ-loop
-look-at-requires c κs = looking (scan c) (c .if1 .taken)
+look-at-requires c κs = looking (scan c) (c .loop-test .taken)
 
 enum-told : tie.Need-enum-told Inv-loop μ-loop
 enum-told c = search needs
 
 returns : tie.Need-returns Inv-loop μ-loop
-returns c = let d = c .before .before in scan-found (scan (d .before)) (d .before .if1 .taken) (told d K.Found (c .enum-told .given .1))
+returns c = let d = c .before .before in scan-found (scan (d .before)) (d .before .loop-test .taken) (told d K.Found (c .enum-told .given .1))
 
 enum-told-2 : tie.Need-enum-told-2 Inv-loop μ-loop
 enum-told-2 c = search needs
@@ -52,7 +52,7 @@ returns-2 : tie.Need-returns-2 Inv-loop μ-loop
 returns-2 c =
     let d = c .before .before in
     let b = told d K.Stop (c .enum-told2 .given .1) in
-    scan-stop (scan (d .before)) (St (d .before) .pre .order (b .rises)) (d .before .if1 .taken) (b .ipr) (b .over)
+    scan-stop (scan (d .before)) (St (d .before) .pre .order (b .rises)) (d .before .loop-test .taken) (b .ipr) (b .over)
 
 enum-told-3 : tie.Need-enum-told-3 Inv-loop μ-loop
 enum-told-3 c = search needs
@@ -62,22 +62,22 @@ missed : (c : tie.After-enum-told3 Inv-loop μ-loop) → Missed (now (St (c .bef
 missed c = told (c .before .before) K.Miss (c .enum-told3 .given .1)
 
 wide : (c : tie.After-enum-told3 Inv-loop μ-loop) → 27 ≡ sizeAt (now (St (c .before .before .before) .args .s)) (q (c .before .before .before))
-wide c = let d = c .before .before .before in scan-ipr (scan d) (d .if1 .taken) (missed c .ipr)
+wide c = let d = c .before .before .before in scan-ipr (scan d) (d .loop-test .taken) (missed c .ipr)
 
 add-q : tie.Need-add-q Inv-loop μ-loop
-add-q c = let d = c .before .before .before in record { fits = omega (arith, scan-room (scan d) (d .if1 .taken), wide c) }
+add-q c = let d = c .before .before .before in record { fits = omega (arith, scan-room (scan d) (d .loop-test .taken), wide c) }
 
 loop-less : tie.Need-loop-less Inv-loop μ-loop
-loop-less c = less (c .before .before .before .if1 .taken) (omega arith)
+loop-less c = less (c .before .before .before .loop-test .taken) (omega arith)
 
 loop-again : tie.Need-loop-again Inv-loop μ-loop
-loop-again c = let d = c .before .before .before in scan-pass (scan d) (d .if1 .taken) (missed c .not-met) 27 (wide c)
+loop-again c = let d = c .before .before .before in scan-pass (scan d) (d .loop-test .taken) (missed c .not-met) 27 (wide c)
 
 enum-told-4 : tie.Need-enum-told-4 Inv-loop μ-loop
 enum-told-4 c = search needs
 
-room : (c : tie.After-enum-told4 Inv-loop μ-loop) → (q (c .before .before .before) + sizeAt (now (St (c .before .before .before) .args .s)) (q (c .before .before .before)) ≤ St (c .before .before .before) .args .w .end) × (20 ≤ sizeAt (now (St (c .before .before .before) .args .s)) (q (c .before .before .before))) × (St (c .before .before .before) .args .w .end ≤ length (now (St (c .before .before .before) .args .s)))
-room c = let d = c .before .before .before in scan-room (scan d) (d .if1 .taken)
+room : (c : tie.After-enum-told4 Inv-loop μ-loop) → (q (c .before .before .before) + sizeAt (now (St (c .before .before .before) .args .s)) (q (c .before .before .before)) ≤ St (c .before .before .before) .args .end) × (20 ≤ sizeAt (now (St (c .before .before .before) .args .s)) (q (c .before .before .before))) × (St (c .before .before .before) .args .end ≤ length (now (St (c .before .before .before) .args .s)))
+room c = let d = c .before .before .before in scan-room (scan d) (d .loop-test .taken)
 
 add-word : tie.Need-add-word Inv-loop μ-loop
 add-word c = record { fits = omega (arith, room c) }
@@ -89,15 +89,15 @@ add-q-2 : tie.Need-add-q-2 Inv-loop μ-loop
 add-q-2 c = record { fits = omega (arith, room (c .before), c .word .ensures) }
 
 loop-less-2 : tie.Need-loop-less-2 Inv-loop μ-loop
-loop-less-2 c = let d = c .before .before .before .before in less (d .if1 .taken) (omega (arith, room (c .before), c .word .ensures))
+loop-less-2 c = let d = c .before .before .before .before in less (d .loop-test .taken) (omega (arith, room (c .before), c .word .ensures))
 
 loop-again-2 : tie.Need-loop-again-2 Inv-loop μ-loop
 loop-again-2 c =
     let d = c .before .before .before in
-    scan-pass (scan (d .before)) (d .before .if1 .taken) (told d K.Pass (c .before .enum-told4 .given .1)) (c .word .result) (c .word .ensures .0)
+    scan-pass (scan (d .before)) (d .before .loop-test .taken) (told d K.Pass (c .before .enum-told4 .given .1)) (c .word .result) (c .word .ensures .0)
 
 returns-3 : tie.Need-returns-3 Inv-loop μ-loop
-returns-3 c = scan-none (c .before .before .loop .inv) (c .if1 .left)
+returns-3 c = scan-none (c .before .loop .inv) (c .loop-test .left)
 
 pub pointer-spec : {M : Type 1} → statement M
 pointer-spec =

@@ -18,6 +18,7 @@ ghost use Prim.Native.Nat.{_+_, _*_, _^_, _≤_, _<_};
 ghost use lib.ListN.{length};
 ghost use Rattle.meter.specs.General.{numberOf};
 ghost use Rattle.text.specs.Field.{isNumber};
+ghost use Rattle.record.specs.Follow.{Ruled};
 ghost use Rattle.mphr.specs.Table.{declared, total, Fine};
 ghost use Rattle.judge.specs.Table.{site, Judged};
 ghost use Rattle.judge.specs.Extent.{ExtentIs};
@@ -88,6 +89,7 @@ fn refusal(number: u8, place: usize) -> Arrival
 // One record of the walk.
 fn turn(
     s: &[u8],
+    follow: &[[bool; 8]; 8],
     totals: &[usize],
     tally: &[usize],
     d: usize,
@@ -96,13 +98,13 @@ fn turn(
     prev: u8,
     w: Pointers,
 ) -> Turned
-    requires { ⌜ Ready (now s) d (site count at prev (now tally)) (now totals) w ⌝ }
+    requires { ⌜ Ready (now s) d (site count at prev (now tally)) (now totals) w × Ruled (now follow) ⌝ }
     ensures { λ r. ⌜ TurnedIs (now (s .entry)) (site count at prev (now (tally .entry))) r ⌝ }
 {
     if s.len() < at + 20 {
         return Turned::Stop(Arrival::Waiting { count, end: at });
     }
-    let h = rank(s, totals, tally, d, at, prev);
+    let h = rank(s, follow, totals, tally, d, at, prev);
     if h == 6 {
         return Turned::Stop(refusal(6, at + 20));
     }
@@ -172,9 +174,11 @@ fn walk(s: &[u8]) -> Arrival
     let mut prev: u8 = 1;
     let mut w = no_pointers(d);
     let mut near: usize = 0;
+    // Once: a const array is copied where it is named.
+    let follow = record::follow::FOLLOW;
     while at < d {
         near = look_ahead(s, at, near);
-        match turn(s, &totals, &tally, d, count, at, prev, w) {
+        match turn(s, &follow, &totals, &tally, d, count, at, prev, w) {
             Turned::Stop(answer) => {
                 return answer;
             }

@@ -1,10 +1,12 @@
 // What a record's header shows by itself: the faults 7 to 11, and 6 where too few bytes are left after it.
 ghost use mathlib.Core.Path.{_≡_};
-ghost use mathlib.Core.Bool.{_&&_};
+ghost use mathlib.Core.Bool.{true, _&&_};
 ghost use Prim.Native.Nat.{_+_, _≤_, _<_};
 ghost use lib.Dec.{ltb};
 ghost use lib.ListN.{length};
 ghost use Rattle.meter.specs.Integer.{beAt};
+ghost use Rattle.record.specs.Header.{isClass};
+ghost use Rattle.record.specs.Follow.{mayFollow, Ruled};
 ghost use Rattle.judge.specs.Step.{Ranked, Ranking, SizedIs, SixIn};
 
 fn wide(b: u8) -> usize
@@ -72,9 +74,25 @@ fn is_six(class: u8, size: usize, left: usize) -> bool
     left < 40
 }
 
+// Whether a record of the class may follow one of the class `last`, by the table that is at hand.
+fn may_follow(follow: &[[bool; 8]; 8], last: u8, class: u8) -> bool
+    requires { ⌜ Ruled (now follow) × (isClass last ≡ true) × (isClass class ≡ true) ⌝ }
+    ensures { λ r. ⌜ r ≡ mayFollow last class ⌝ }
+{
+    follow[(last - 1) as usize][(class - 1) as usize]
+}
+
 // The lowest number of the faults that the header at `at` shows by itself, 6 where 1 to 19 bytes are left after its 20, or 12 for none.
-pub(crate) fn rank(s: &[u8], totals: &[usize], tally: &[usize], d: usize, at: usize, prev: u8) -> u8
-    requires { ⌜ Ranking (now s) (now totals) (now tally) d at prev ⌝ }
+pub(crate) fn rank(
+    s: &[u8],
+    follow: &[[bool; 8]; 8],
+    totals: &[usize],
+    tally: &[usize],
+    d: usize,
+    at: usize,
+    prev: u8,
+) -> u8
+    requires { ⌜ Ranking (now s) (now totals) (now tally) d at prev × Ruled (now follow) ⌝ }
     ensures { λ r. ⌜ Ranked (now (s .entry)) prev at (now (tally .entry)) r ⌝ }
 {
     let class = s[at];
@@ -89,7 +107,7 @@ pub(crate) fn rank(s: &[u8], totals: &[usize], tally: &[usize], d: usize, at: us
     if !record::header::is_group(s[at + 1]) {
         return 7;
     }
-    if !record::follow::may_follow(prev, class) {
+    if !may_follow(follow, prev, class) {
         return 8;
     }
     if !is_sized(class, size, left) {

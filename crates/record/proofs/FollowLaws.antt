@@ -10,7 +10,7 @@ use borrow.Author.Tests.{leb-true, lt-leb, ne-eqb}
 use lib.Dec.{T, eqb, leb}
 use lib.ListN.{length, getD}
 use Rattle.calendar.proofs.Range.{below, at, same}
-use Rattle.record.specs.Follow.{firstAfter, mayFollow}
+use Rattle.record.specs.Follow.{firstAfter, mayFollow, Ruled}
 use Rattle.record.proofs.FieldLaws.{both}
 
 -- ---- beyond the classes
@@ -66,6 +66,9 @@ in-table t e (suc i) (suc j) h l m n =
     simp unary-clauses
     (same (getD (getD t i []) j false) (mayFollow (suc i) (suc j))
     (at (agrees t i) 8 (at (λ (i : ℕ). below (agrees t i) 8) 8 e i (omega arith)) j (omega arith)))
+
+pub ruled : (t : List (List Bool)) → T (isTable t) → Ruled t
+ruled t e = record { rule = in-table t e }
 
 -- ---- one MPHR, at most one SPHR
 -- each class may follow the one before it

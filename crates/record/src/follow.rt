@@ -7,7 +7,7 @@ const NO: bool = false;
 const YES: bool = true;
 
 // A row for the class last seen, 1 to 8, and a column for the next.
-const FOLLOW: [[bool; 8]; 8] = [
+pub const FOLLOW: [[bool; 8]; 8] = [
     [NO, YES, YES, YES, YES, YES, YES, YES], // after 1 MPHR
     [NO, NO, YES, YES, YES, YES, YES, YES], // after 2 SPHR
     [NO, NO, YES, YES, YES, YES, YES, YES], // after 3 IPR

@@ -52,10 +52,10 @@ add-if1 : tie.Need-add-if1
 add-if1 c = search needs
 
 returns : tie.Need-returns
-returns c = say-short (c .before .before .before .before .pre) (c .if1 .taken)
+returns c = say-short (c .before .before .before .before .pre .0) (c .if1 .taken)
 
 rank-requires : tie.Need-rank-requires
-rank-requires c κs = ranking (c .before .before .before .before .pre) (c .if1 .left)
+rank-requires c κs = (ranking (c .before .before .before .before .pre .0) (c .if1 .left), c .before .before .before .before .pre .1)
 
 add-refusal : tie.Need-add-refusal
 add-refusal c = search needs
@@ -64,13 +64,13 @@ refusal-requires : tie.Need-refusal-requires
 refusal-requires c κs = search needs
 
 returns-2 : tie.Need-returns-2
-returns-2 c = let k = c .before .before in said (a k) (c .refusal .ensures) (say-6-head (St k .pre) (come k) (k .rank .ensures) (c .before .if2 .taken))
+returns-2 c = let k = c .before .before in said (a k) (c .refusal .ensures) (say-6-head (St k .pre .0) (come k) (k .rank .ensures) (c .before .if2 .taken))
 
 refusal-requires-2 : tie.Need-refusal-requires-2
 refusal-requires-2 c κs = search needs
 
 returns-3 : tie.Need-returns-3
-returns-3 c = let k = c .before .before .before in said (a k) (c .refusal2 .ensures) (say-head (St k .pre) (come k) (k .rank .ensures) (c .before .before .if2 .left) (c .before .if3 .taken))
+returns-3 c = let k = c .before .before .before in said (a k) (c .refusal2 .ensures) (say-head (St k .pre .0) (come k) (k .rank .ensures) (c .before .before .if2 .left) (c .before .if3 .taken))
 
 add-word : tie.Need-add-word
 add-word c = search needs
@@ -82,7 +82,7 @@ add-to : tie.Need-add-to
 add-to c = search needs
 
 settle-requires : tie.Need-settle-requires
-settle-requires c κs = settling (St (c .before .before .before) .pre) (come (c .before .before .before)) (c .before .before .before .rank .ensures) (high c) (c .word .ensures .0)
+settle-requires c κs = settling (St (c .before .before .before) .pre .0) (come (c .before .before .before)) (c .before .before .before .rank .ensures) (high c) (c .word .ensures .0)
 
 enum-known-q : tie.Need-enum-known-q
 enum-known-q c = search needs
@@ -100,7 +100,7 @@ enum-known-v : tie.Need-enum-known-v
 enum-known-v c = search needs
 
 close-record-requires : tie.Need-close-record-requires
-close-record-requires c κs = let w = W c in bodied (St (R w) .pre) (come (R w)) (R w .rank .ensures) (high w) (w .word .ensures .0)
+close-record-requires c κs = let w = W c in bodied (St (R w) .pre .0) (come (R w)) (R w .rank .ensures) (high w) (w .word .ensures .0)
 
 enum-told : tie.Need-enum-told
 enum-told c = search needs
@@ -120,43 +120,43 @@ refusal-requires-6 c κs = search needs
 enum-known-pointers : tie.Need-enum-known-pointers
 enum-known-pointers c = search needs
 
-shared-slice-read-t32 : tie.Need-shared-slice-read-t32
-shared-slice-read-t32 c = search needs
+shared-slice-read-t33 : tie.Need-shared-slice-read-t33
+shared-slice-read-t33 c = search needs
 
 returns-4 : tie.Need-returns-4
 returns-4 c =
     let b = c .before in
     let s = b .before .before .before in
     let w = s .before in
-    said (a (R w)) (c .refusal3 .ensures) (say-13 (St (R w) .pre) (come (R w)) (R w .rank .ensures) (high w) (w .word .ensures .0) (told s (S.Inside (b .before .q .given .0 .0)) (b .before .q .given .1)))
+    said (a (R w)) (c .refusal3 .ensures) (say-13 (St (R w) .pre .0) (come (R w)) (R w .rank .ensures) (high w) (w .word .ensures .0) (told s (S.Inside (b .before .q .given .0 .0)) (b .before .q .given .1)))
 
 returns-5 : tie.Need-returns-5
 returns-5 c =
     let b = c .before in
     let s = b .before .before .before in
     let w = s .before in
-    said (a (R w)) (c .refusal4 .ensures) (say-14 (St (R w) .pre) (come (R w)) (R w .rank .ensures) (high w) (w .word .ensures .0) (told s (S.Other (b .before .q2 .given .0 .0)) (b .before .q2 .given .1)))
+    said (a (R w)) (c .refusal4 .ensures) (say-14 (St (R w) .pre .0) (come (R w)) (R w .rank .ensures) (high w) (w .word .ensures .0) (told s (S.Other (b .before .q2 .given .0 .0)) (b .before .q2 .given .1)))
 
 returns-6 : tie.Need-returns-6
 returns-6 c =
     let b = c .before .before in
     let k = b .before in
     let w = W k in
-    say-part (St (R w) .pre) (come (R w)) (R w .rank .ensures) (high w) (w .word .ensures .0) (clear k) (closed b B.Part (c .enum-told .given .1))
+    say-part (St (R w) .pre .0) (come (R w)) (R w .rank .ensures) (high w) (w .word .ensures .0) (clear k) (closed b B.Part (c .enum-told .given .1))
 
 returns-7 : tie.Need-returns-7
 returns-7 c =
     let b = c .before .before .before in
     let k = b .before in
     let w = W k in
-    said (a (R w)) (c .refusal5 .ensures) (say-6 (St (R w) .pre) (come (R w)) (R w .rank .ensures) (high w) (w .word .ensures .0) (clear k) (closed b B.Six (c .before .enum-told2 .given .1)))
+    said (a (R w)) (c .refusal5 .ensures) (say-6 (St (R w) .pre .0) (come (R w)) (R w .rank .ensures) (high w) (w .word .ensures .0) (clear k) (closed b B.Six (c .before .enum-told2 .given .1)))
 
 returns-8 : tie.Need-returns-8
 returns-8 c =
     let b = c .before .before .before in
     let k = b .before in
     let w = W k in
-    said (a (R w)) (c .refusal6 .ensures) (say-12 (St (R w) .pre) (come (R w)) (R w .rank .ensures) (high w) (w .word .ensures .0) (clear k) (closed b B.BadTarget (c .before .enum-told3 .given .1)))
+    said (a (R w)) (c .refusal6 .ensures) (say-12 (St (R w) .pre .0) (come (R w)) (R w .rank .ensures) (high w) (w .word .ensures .0) (clear k) (closed b B.BadTarget (c .before .enum-told3 .given .1)))
 
 returns-9 : tie.Need-returns-9
 returns-9 c =
@@ -164,7 +164,7 @@ returns-9 c =
     let b = g .before .before in
     let k = b .before in
     let w = W k in
-    go-on (St (R w) .pre) (come (R w)) (R w .rank .ensures) (high w) (w .word .ensures .0) (clear k) (closed b (B.Entire (g .pointers .given .0 .0)) (g .pointers .given .1))
+    go-on (St (R w) .pre .0) (come (R w)) (R w .rank .ensures) (high w) (w .word .ensures .0) (clear k) (closed b (B.Entire (g .pointers .given .0 .0)) (g .pointers .given .1))
 
 pub turn-spec : {M : Type 1} → statement M
 turn-spec =
@@ -194,7 +194,7 @@ turn-spec =
     enum-told-3
     refusal-requires-6
     enum-known-pointers
-    shared-slice-read-t32
+    shared-slice-read-t33
     returns-4
     returns-5
     returns-6

@@ -6,6 +6,8 @@ use borrow.Author.Needs.{needs}
 use mathlib.Core.List.{List}
 use mathlib.Core.Path.{_≡_, refl, sym, subst, _∙_}
 use lib.ListN.{length, getD}
+use Rattle.record.specs.Follow.{firstAfter, mayFollow, Ruled}
+use Rattle.record.proofs.FollowLaws.{ruled}
 use Rattle.mphr.specs.Table.{declared}
 use Rattle.judge.specs.Table.{Site, site, Given}
 use Rattle.judge.specs.Step.{Kept}
@@ -19,10 +21,10 @@ use Rattle.judge.proofs.arrival.walk.Statement.{statement}
 use Rattle.judge.proofs.arrival.walk.Tie as tie
 
 abbrev Inv-loop : tie.InvT-loop
-Inv-loop s d totals tally₀ count₀ at₀ prev₀ w₀ near₀ tally count at prev w near = Turn s (site count at prev tally) × Kept s at w
+Inv-loop s d totals tally₀ count₀ at₀ prev₀ w₀ near₀ follow tally count at prev w near = Turn s (site count at prev tally) × Kept s at w × Ruled follow
 
 abbrev μ-loop : tie.MeasureT-loop
-μ-loop s d totals tally₀ count₀ at₀ prev₀ w₀ near₀ tally count at prev w near = d - at
+μ-loop s d totals tally₀ count₀ at₀ prev₀ w₀ near₀ follow tally count at prev w near = d - at
 
 abbrev E : tie.At-loop Inv-loop μ-loop → tie.Else1 Inv-loop μ-loop
 E c = c .before .before .before .before .before
@@ -40,7 +42,7 @@ abbrev x : tie.At-loop Inv-loop μ-loop → Site
 x c = site (c .loop .count) (c .loop .at) (c .loop .prev) (c .loop .tally)
 
 abbrev T : tie.After-turn Inv-loop μ-loop → tie.At-loop Inv-loop μ-loop
-T c = c .before .before .before .before .before
+T c = c .before .before .before .before .before .before
 
 told : (c : tie.After-turn Inv-loop μ-loop) (r : Turned) → c .turn .result ≡ r → TurnedIs (a (T c)) (x (T c)) r
 told c r e = subst (TurnedIs (a (T c)) (x (T c))) e (c .turn .ensures)
@@ -78,12 +80,14 @@ no-pointers-requires : tie.Need-no-pointers-requires Inv-loop μ-loop
 no-pointers-requires c κs = search needs
 
 loop-holds : tie.Need-loop-holds Inv-loop μ-loop
+unfolding firstAfter mayFollow
 loop-holds c =
     let e = c .before .before .before .before in
     let z = e .before .before .size-of in
     let s = e .before .before .before .before in (
       turn-first (s .pre .clean) (s .pre .come) (λ h. omega (arith, z .ensures .0, not-part 3307 (z .result) (sym (e .before .is-part .ensures) ∙ e .if1 .left) (omega (arith, z .ensures .0)))),
       subst (Kept (now (s .args .s)) 3307) (sym (c .no-pointers .ensures)) (kept-first (s .pre .come)),
+      ruled _ tt,
     )
 
 look-ahead-requires : tie.Need-look-ahead-requires Inv-loop μ-loop
@@ -97,8 +101,8 @@ slice-aggregate-turn-2 c = search needs
 
 turn-requires : tie.Need-turn-requires Inv-loop μ-loop
 turn-requires c κs =
-    let l = c .before .before .before .before in
-    record { d-is = size l .0; small = size l .2; room = c .before .before .before .loop-test .taken; totals = totals l; turn = l .loop .inv .0; kept = l .loop .inv .1 }
+    let l = c .before .before .before .before .before in
+    (record { d-is = size l .0; small = size l .2; room = c .before .before .before .before .loop-test .taken; totals = totals l; turn = l .loop .inv .0; kept = l .loop .inv .1 }, l .loop .inv .2)
 
 enum-known-answer : tie.Need-enum-known-answer Inv-loop μ-loop
 enum-known-answer c = search needs
@@ -128,10 +132,10 @@ add-count : tie.Need-add-count Inv-loop μ-loop
 add-count c = record { fits = omega (arith, L c .loop .inv .0 .counted, L c .loop .inv .0 .inside, size (L c)) }
 
 loop-less : tie.Need-loop-less Inv-loop μ-loop
-loop-less c = omega (arith, gone c .further, c .before .before .before .before .before .before .before .loop-test .taken)
+loop-less c = omega (arith, gone c .further, c .before .before .before .before .before .before .before .before .loop-test .taken)
 
 loop-again : tie.Need-loop-again Inv-loop μ-loop
-loop-again c = (gone c .turn, gone c .kept)
+loop-again c = (gone c .turn, gone c .kept, L c .loop .inv .2)
 
 slice-aggregate-ended : tie.Need-slice-aggregate-ended Inv-loop μ-loop
 slice-aggregate-ended c = search needs

@@ -22,7 +22,7 @@ use Rattle.judge.proofs.header.rank.Lts as lts
 use Rattle.judge.proofs.header.is_six.Reads as is-six-reads
 use Rattle.judge.proofs.header.is_sized.Reads as is-sized-reads
 use Rattle.judge.proofs.header.word.Reads as word-reads
-use Rattle.record.proofs.follow.may_follow.Reads as may-follow-reads
+use Rattle.judge.proofs.header.may_follow.Reads as may-follow-reads
 use Rattle.record.proofs.header.is_class.Reads as is-class-reads
 use Rattle.record.proofs.header.is_group.Reads as is-group-reads
 use Rattle.record.proofs.times.times_stand.Reads as times-stand-reads
@@ -53,7 +53,7 @@ i c = St c .args .at
 
 -- what was found on the way
 no-six : (c : tie.Else1) → Six (a (c .before .before)) (i (c .before .before)) → ⊥
-no-six c = not-six (St (c .before .before) .pre) refl (c .before .before .word .ensures .0) (c .before .is-six .ensures) (c .if1 .left)
+no-six c = not-six (St (c .before .before) .pre .0) refl (c .before .before .word .ensures .0) (c .before .is-six .ensures) (c .if1 .left)
 
 a-class : (c : tie.Else2) → isClass (getD (a (c .before .before .before .before)) (i (c .before .before .before .before)) 0) ≡ true
 a-class c = sym (c .before .is-class .ensures) ∙ not-false (c .before .is-class .result) (c .if2 .left)
@@ -68,7 +68,7 @@ not-misplaced : (c : tie.Else4) → Misplaced (a (W3 (c .before .before))) (St (
 not-misplaced c m = clash (sym (m .against) ∙ sym (c .before .may-follow .ensures) ∙ not-false (c .before .may-follow .result) (c .if4 .left))
 
 returns : tie.Need-returns
-returns c = rank-6 (six-of (St (c .before .before) .pre) refl (c .before .before .word .ensures .0) (c .before .is-six .ensures) (c .if1 .taken))
+returns c = rank-6 (six-of (St (c .before .before) .pre .0) refl (c .before .before .word .ensures .0) (c .before .is-six .ensures) (c .if1 .taken))
 
 is-class-requires : tie.Need-is-class-requires
 is-class-requires c κs = search needs
@@ -89,12 +89,12 @@ returns-3 : tie.Need-returns-3
 returns-3 c = rank-7 (no-six (c .before .before .before .before .before)) (no-group (a (c .before .before .before .before .before .before .before)) (i (c .before .before .before .before .before .before .before)) (a-class (c .before .before .before)) (sym (c .before .is-group .ensures) ∙ not-true (c .before .is-group .result) (c .if3 .taken)))
 
 may-follow-requires : tie.Need-may-follow-requires
-may-follow-requires c κs = search needs
+may-follow-requires c κs = let s = St (W3 c) in (s .pre .1, s .pre .0 .known, a-class (c .before .before .before))
 
 returns-4 : tie.Need-returns-4
 returns-4 c =
     let e = c .before .before in
-    rank-8 (no-six (e .before .before .before .before .before)) (not-unknown e) (record { before = St (W3 e) .pre .known; known = a-class (e .before .before .before); against = sym (c .before .may-follow .ensures) ∙ not-true (c .before .may-follow .result) (c .if4 .taken) })
+    rank-8 (no-six (e .before .before .before .before .before)) (not-unknown e) (record { before = St (W3 e) .pre .0 .known; known = a-class (e .before .before .before); against = sym (c .before .may-follow .ensures) ∙ not-true (c .before .may-follow .result) (c .if4 .taken) })
 
 is-sized-requires : tie.Need-is-sized-requires
 is-sized-requires c κs = search needs
@@ -103,7 +103,7 @@ returns-5 : tie.Need-returns-5
 returns-5 c =
     let f = c .before .before in
     let e = f .before .before in
-    rank-9 (no-six (e .before .before .before .before .before)) (not-unknown e) (not-misplaced f) (unsound (St (W3 e) .pre) refl (W3 e .word .ensures .0) (c .before .is-sized .ensures) (not-true (c .before .is-sized .result) (c .if5 .taken)))
+    rank-9 (no-six (e .before .before .before .before .before)) (not-unknown e) (not-misplaced f) (unsound (St (W3 e) .pre .0) refl (W3 e .word .ensures .0) (c .before .is-sized .ensures) (not-true (c .before .is-sized .result) (c .if5 .taken)))
 
 times-stand-requires : tie.Need-times-stand-requires
 times-stand-requires c κs = search needs
@@ -111,12 +111,12 @@ times-stand-requires c κs = search needs
 is-sound : (c : tie.Else5) → Sound (a (W3 (c .before .before .before .before))) (i (W3 (c .before .before .before .before)))
 is-sound c =
     let e = c .before .before .before .before in
-    sound-of (St (W3 e) .pre) refl (W3 e .word .ensures .0) (c .before .is-sized .ensures .good (not-false (c .before .is-sized .result) (c .if5 .left)))
+    sound-of (St (W3 e) .pre .0) refl (W3 e .word .ensures .0) (c .before .is-sized .ensures .good (not-false (c .before .is-sized .result) (c .if5 .left)))
 
 is-timed : (c : tie.Else6) → timedAt (a (W3 (c .before .before .before .before .before .before))) (i (W3 (c .before .before .before .before .before .before))) ≡ false → ⊥
 is-timed c n =
     let e = W3 (c .before .before .before .before .before .before) in
-    clash (sym n ∙ sym (stands (a e) (i e) (c .before .times-stand .result) (St e .pre .come) (c .before .times-stand .ensures)) ∙ not-false (c .before .times-stand .result) (c .if6 .left))
+    clash (sym n ∙ sym (stands (a e) (i e) (c .before .times-stand .result) (St e .pre .0 .come) (c .before .times-stand .ensures)) ∙ not-false (c .before .times-stand .result) (c .if6 .left))
 
 eight : (c : tie.Else6) → getD (a (W3 (c .before .before .before .before .before .before))) (i (W3 (c .before .before .before .before .before .before))) 0 ≤ 8
 eight c = class-most (getD (a (W3 (c .before .before .before .before .before .before))) (i (W3 (c .before .before .before .before .before .before))) 0) (a-class (c .before .before .before .before .before .before .before .before .before)) .1
@@ -126,7 +126,7 @@ returns-6 c =
     let g = c .before .before in
     let f = g .before .before in
     let e = f .before .before in
-    rank-10 (no-six (e .before .before .before .before .before)) (not-unknown e) (not-misplaced f) (λ n. n (is-sound g)) (sym (stands (a (W3 e)) (i (W3 e)) (c .before .times-stand .result) (St (W3 e) .pre .come) (c .before .times-stand .ensures)) ∙ not-true (c .before .times-stand .result) (c .if6 .taken))
+    rank-10 (no-six (e .before .before .before .before .before)) (not-unknown e) (not-misplaced f) (λ n. n (is-sound g)) (sym (stands (a (W3 e)) (i (W3 e)) (c .before .times-stand .result) (St (W3 e) .pre .0 .come) (c .before .times-stand .ensures)) ∙ not-true (c .before .times-stand .result) (c .if6 .taken))
 
 cast-if7 : tie.Need-cast-if7
 cast-if7 c = record { fits = omega (arith, eight c) }
@@ -135,7 +135,7 @@ mul-if7 : tie.Need-mul-if7
 mul-if7 c = omega (arith, eight c)
 
 shared-slice-read-if7 : tie.Need-shared-slice-read-if7
-shared-slice-read-if7 c = omega (arith, eight (c .before), St (W3 (c .before .before .before .before .before .before .before)) .pre .nine)
+shared-slice-read-if7 c = omega (arith, eight (c .before), St (W3 (c .before .before .before .before .before .before .before)) .pre .0 .nine)
 
 cast-if7-2 : tie.Need-cast-if7-2
 cast-if7-2 c = record { fits = omega (arith, eight (c .before)) }
@@ -144,7 +144,7 @@ mul-if7-2 : tie.Need-mul-if7-2
 mul-if7-2 c = omega (arith, eight (c .before))
 
 shared-slice-read-if7-2 : tie.Need-shared-slice-read-if7-2
-shared-slice-read-if7-2 c = omega (arith, eight (c .before .before), St (W3 (c .before .before .before .before .before .before .before .before)) .pre .nine′)
+shared-slice-read-if7-2 c = omega (arith, eight (c .before .before), St (W3 (c .before .before .before .before .before .before .before .before)) .pre .0 .nine′)
 
 returns-7 : tie.Need-returns-7
 returns-7 c =
@@ -152,7 +152,7 @@ returns-7 c =
     let g = h .before .before in
     let f = g .before .before in
     let e = f .before .before in
-    rank-11 (no-six (e .before .before .before .before .before)) (not-unknown e) (not-misplaced f) (λ n. n (is-sound g)) (is-timed h) (over (St (W3 e) .pre) refl (W3 e .word .ensures .0) (a-class (e .before .before .before)) (c .if7 .taken))
+    rank-11 (no-six (e .before .before .before .before .before)) (not-unknown e) (not-misplaced f) (λ n. n (is-sound g)) (is-timed h) (over (St (W3 e) .pre .0) refl (W3 e .word .ensures .0) (a-class (e .before .before .before)) (c .if7 .taken))
 
 returns-8 : tie.Need-returns-8
 returns-8 c =
@@ -160,7 +160,7 @@ returns-8 c =
     let g = h .before .before in
     let f = g .before .before in
     let e = f .before .before in
-    rank-12 (no-six (e .before .before .before .before .before)) (not-unknown e) (not-misplaced f) (λ n. n (is-sound g)) (is-timed h) (not-over (St (W3 e) .pre) refl (W3 e .word .ensures .0) (a-class (e .before .before .before)) (c .if7 .left))
+    rank-12 (no-six (e .before .before .before .before .before)) (not-unknown e) (not-misplaced f) (λ n. n (is-sound g)) (is-timed h) (not-over (St (W3 e) .pre .0) refl (W3 e .word .ensures .0) (a-class (e .before .before .before)) (c .if7 .left))
 
 pub rank-spec : {M : Type 1} → statement M
 rank-spec =

@@ -1,0 +1,49 @@
+-- `judge::header::may_follow` meets its contract: both are classes, so the table has the rule for them. Assumes nothing.
+use native.Mathlib.Omega.{arith}
+use Rattle.judge.proofs.RankLaws.{class-most}
+use borrow.Author.Needs.{needs}
+use Rattle.judge.proofs.header.may_follow.Statement.{statement}
+use Rattle.judge.proofs.header.may_follow.Tie as tie
+use Rattle.judge.proofs.header.may_follow.Reads as reads
+use Rattle.judge.proofs.header.may_follow.Lts as lts
+
+sub-result : tie.Need-sub-result
+sub-result c = omega (arith, class-most (c .args .last) (c .pre .1))
+
+cast-result : tie.Need-cast-result
+cast-result c = search needs
+
+sub-result-2 : tie.Need-sub-result-2
+sub-result-2 c = omega (arith, class-most (c .args .class) (c .pre .2))
+
+cast-result-2 : tie.Need-cast-result-2
+cast-result-2 c = search needs
+
+mul-result : tie.Need-mul-result
+mul-result c = search needs
+
+index-1-result : tie.Need-index-1-result
+index-1-result c = omega (arith, class-most (c .args .last) (c .pre .1))
+
+index-2-result : tie.Need-index-2-result
+index-2-result c = omega (arith, class-most (c .args .class) (c .pre .2))
+
+returns : tie.Need-returns
+returns c =
+    let s = c .before in
+    let l = class-most (s .args .last) (s .pre .1) in
+    let n = class-most (s .args .class) (s .pre .2) in
+    s .pre .0 .rule (s .args .last) (s .args .class) (l .0) (l .1) (n .0) (n .1)
+
+pub may-follow-spec : {M : Type 1} → statement M
+may-follow-spec =
+    tie.close
+    (tie.spec
+    sub-result
+    cast-result
+    sub-result-2
+    cast-result-2
+    mul-result
+    index-1-result
+    index-2-result
+    returns)

@@ -8,3 +8,4 @@ pub mod Export
 pub mod WritingLaws
 pub mod LineBack
 pub mod Determined
+pub mod AlikeLaws

@@ -14,6 +14,14 @@ use Rattle.mphr.specs.declared.faults.HeaderFault.the-variants as F
 use Rattle.mphr.specs.declared.faults.Turned.{Turned}
 use Rattle.mphr.specs.declared.faults.Turned.the-variants.{Stop, Go}
 
+-- the n bytes of a from i on are those of t from j on
+abbrev pub Alike : List ℕ → List ℕ → ℕ → ℕ → ℕ → Type 0
+Alike a t i j n = (m : ℕ) → m < n → getD a (i + m) 0 ≡ getD t (j + m) 0
+
+pub record AlikeIs (a t : List ℕ) (i j : ℕ) (r : Bool) : Type 0 where
+  pub good : r ≡ true → Alike a t i j 10
+  pub bad : r ≡ false → Alike a t i j 10 → ⊥
+
 -- the stage of a fault: it is shown where line `stage` starts
 abbrev pub stage : {a : List ℕ} → Fault a → ℕ
 stage (bad-header _) = 0

@@ -9,13 +9,14 @@ use text::Number;
 use text::NumberRead;
 ghost use mathlib.Core.Path.{_≡_};
 ghost use mathlib.Core.Bool.{true, false};
-ghost use Prim.Native.Nat.{_+_, _^_, _≤_, _<_};
+ghost use Prim.Native.Nat.{_+_, _*_, _^_, _≤_, _<_};
 ghost use lib.ListN.{length};
+ghost use Rattle.meter.specs.Integer.{beAt};
 ghost use Rattle.meter.specs.General.{numberOf};
 ghost use Rattle.text.specs.Field.{isNumber};
 ghost use Rattle.mphr.specs.Layout.{names, widthOf, lineStart};
 ghost use Rattle.mphr.specs.Table.{headed, named, framed, declared, total, sum, FirstIs};
-ghost use Rattle.mphr.specs.Turning.{Later, Counts, Ready, TurnedIs, refusedAt};
+ghost use Rattle.mphr.specs.Turning.{AlikeIs, Later, Counts, Ready, TurnedIs, refusedAt};
 
 // The first fault that is shown, or none.
 pub enum HeaderFault {
@@ -48,16 +49,52 @@ fn is_headed(s: &[u8]) -> bool
     }
 }
 
+fn wide(b: u8) -> u64
+    ensures { λ r. ⌜ (r ≡ b) × (r < 256) ⌝ }
+{
+    b as u64
+}
+
+// The number in the 4 bytes from `at` on.
+fn four(s: &[u8], at: usize) -> u64
+    requires { ⌜ at + 4 ≤ length (now s) ⌝ }
+    ensures { λ r. ⌜ (r ≡ beAt (now (s .entry)) at 4) × (r < 4294967296) ⌝ }
+{
+    ((wide(s[at]) * 256 + wide(s[at + 1])) * 256 + wide(s[at + 2])) * 256 + wide(s[at + 3])
+}
+
+// The number in the 8 bytes from `at` on, which is one load.
+fn eight(s: &[u8], at: usize) -> u64
+    requires { ⌜ at + 8 ≤ length (now s) ⌝ }
+    ensures { λ r. ⌜ r ≡ beAt (now (s .entry)) at 4 * 4294967296 + beAt (now (s .entry)) (at + 4) 4 ⌝ }
+{
+    four(s, at) * 4294967296 + four(s, at + 4)
+}
+
+// The ten bytes of s from i on are those of t from j on.
+fn is_alike(s: &[u8], i: usize, t: &[u8], j: usize) -> bool
+    requires { ⌜ (i + 10 ≤ length (now s)) × (j + 10 ≤ length (now t)) ⌝ }
+    ensures { λ r. ⌜ AlikeIs (now (s .entry)) (now (t .entry)) i j r ⌝ }
+{
+    if eight(s, i) != eight(t, j) {
+        return false;
+    }
+    if s[i + 8] != t[j + 8] {
+        return false;
+    }
+    s[i + 9] == t[j + 9]
+}
+
 fn is_named(s: &[u8], table: &[u8], k: usize, at: usize) -> bool
     requires { ⌜ (k < 72) × (at ≡ lineStart k) × (at + 30 ≤ length (now s)) × (now table ≡ names) ⌝ }
     ensures { λ r. ⌜ r ≡ named (now (s .entry)) k ⌝ }
 {
-    let mut j: usize = 0;
-    while j < 30 {
-        if s[at + j] != table[30 * k + j] {
+    let mut i: usize = 0;
+    while i < 3 {
+        if !is_alike(s, at + 10 * i, table, 30 * k + 10 * i) {
             return false;
         }
-        j += 1;
+        i += 1;
     }
     true
 }

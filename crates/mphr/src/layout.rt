@@ -92,7 +92,7 @@ MILLISECONDS_OF_DATA_PRESENT  \
 MILLISECONDS_OF_DATA_MISSING  \
 SUBSETTED_PRODUCT             ";
 
-const WIDTHS: [usize; 72] = [
+const WIDTHS: [u8; 72] = [
     67,
     67,
     67,
@@ -328,7 +328,7 @@ pub(crate) fn width(k: usize) -> usize
     requires { ⌜ k < 72 ⌝ }
     ensures { λ r. ⌜ (r ≡ widthOf k) × (r ≤ 67) ⌝ }
 {
-    WIDTHS[k]
+    WIDTHS[k] as usize
 }
 
 pub(crate) fn start(k: usize) -> usize

@@ -6,3 +6,4 @@ pub mod JudgeLaws
 pub mod TurnLaws
 pub mod CountLaws
 pub mod Covering
+pub mod PaceLaws

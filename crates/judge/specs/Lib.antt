@@ -2,3 +2,4 @@ pub mod Table
 pub mod Step
 pub mod Turning
 pub mod Extent
+pub mod Pace

@@ -56,7 +56,7 @@ pub record Ready (a : List ℕ) (d : ℕ) (x : Site) (ts : List ℕ) (w : Pointe
 
 -- one turn on: the site after x
 pub record Gone (a : List ℕ) (x : Site) (to c : ℕ) (w : Pointers) : Type 0 where
-  pub further : x .at < to
+  pub further : x .at + 20 ≤ to
   pub eight : c ≤ 8
   pub fewer : getD (x .tally) c 0 < total a c
   pub turn : Turn a (site (x .count + 1) to c (oneMore (x .tally) c))

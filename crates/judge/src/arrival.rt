@@ -3,6 +3,9 @@ use crate::header::is_part;
 use crate::header::look_ahead;
 use crate::header::rank;
 use crate::header::word;
+use crate::pace::no_pace;
+use crate::pace::pace_of;
+use crate::pace::passes;
 use crate::pointers::Body;
 use crate::pointers::Pointers;
 use crate::pointers::Settled;
@@ -174,10 +177,17 @@ fn walk(s: &[u8]) -> Arrival
     let mut prev: u8 = 1;
     let mut w = no_pointers(d);
     let mut near: usize = 0;
+    let mut pace = no_pace();
     // Once: a const array is copied where it is named.
     let follow = record::follow::FOLLOW;
     while at < d {
         near = look_ahead(s, at, near);
+        if passes(s, &follow, &totals, &tally, pace, at, prev) {
+            tally[prev as usize] += 1;
+            count += 1;
+            at += pace.size;
+            continue;
+        }
         match turn(s, &follow, &totals, &tally, d, count, at, prev, w) {
             Turned::Stop(answer) => {
                 return answer;
@@ -187,6 +197,7 @@ fn walk(s: &[u8]) -> Arrival
                 class,
                 pointers,
             } => {
+                pace = pace_of(s, class, to - at, pointers.due, d);
                 tally[class as usize] += 1;
                 count += 1;
                 at = to;

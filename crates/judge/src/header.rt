@@ -75,7 +75,7 @@ fn is_six(class: u8, size: usize, left: usize) -> bool
 }
 
 // Whether a record of the class may follow one of the class `last`, by the table that is at hand.
-fn may_follow(follow: &[[bool; 8]; 8], last: u8, class: u8) -> bool
+pub(crate) fn may_follow(follow: &[[bool; 8]; 8], last: u8, class: u8) -> bool
     requires { ⌜ Ruled (now follow) × (isClass last ≡ true) × (isClass class ≡ true) ⌝ }
     ensures { λ r. ⌜ r ≡ mayFollow last class ⌝ }
 {

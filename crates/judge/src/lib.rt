@@ -3,4 +3,5 @@ pub use calendar::Refusal;
 
 pub mod arrival;
 mod header;
+mod pace;
 mod pointers;

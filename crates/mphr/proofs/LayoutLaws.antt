@@ -1,14 +1,16 @@
 -- The laws of the layout: where the lines start, computed; each after the one before. Each is one computed test over the lines, or an
 -- induction on the line. Assumes nothing.
-use mathlib.Core.Path.{_≡_, refl}
+use mathlib.Core.Path.{_≡_, refl, ap, _∙_}
 use Prim.Native.Nat.{ℕ, zero, suc, _+_, _*_, _-_, _≤_, _<_}
 use native.Mathlib.Nat.{le-refl}
 use native.Mathlib.Numerals.{unary-clauses}
 use native.Mathlib.Omega.{arith}
 use lib.Dec.{T, leb, leb→le, eqb, eqb→eq}
-use lib.ListN.{getD}
+use lib.ListN.{getD, List·getD-map}
+use Rattle.text.specs.declared.Kind.{Kind}
+use Rattle.text.specs.declared.Kind.the-variants.{Text, Unsigned, Count, Signed, Time, LongTime}
 use Rattle.calendar.proofs.Range.{below, at}
-use Rattle.mphr.specs.Layout.{fields, widths, widthOf, lineStart, starts}
+use Rattle.mphr.specs.Layout.{fields, widths, kinds, codeOf, kindFrom, codes, widthOf, kindOf, lineStart, starts}
 
 -- THE LAYOUT, computed: line 28 starts at 1453, the totals' lines at 2643 and after 2994, and the record ends at 3307
 pub start-28 : lineStart 28 ≡ 1453
@@ -50,6 +52,19 @@ widths-most = tt
 
 pub width-most : (k : ℕ) → k < 72 → widthOf k ≤ 67
 width-most k h = leb→le _ _ (at (λ (k : ℕ). leb (widthOf k) 67) 72 widths-most k h)
+
+-- the kind of a line by its number
+kind-back : (x : Kind) → kindFrom (codeOf x) ≡ x
+kind-back Text = refl
+kind-back Unsigned = refl
+kind-back Count = refl
+kind-back Signed = refl
+kind-back Time = refl
+kind-back LongTime = refl
+
+pub kind-from : (k : ℕ) → kindFrom (getD codes k 0) ≡ kindOf k
+unfolding codes kindOf
+kind-from k = ap kindFrom (List·getD-map codeOf kinds k Text) ∙ kind-back (getD kinds k Text)
 
 -- each line starts after the one before
 pub start-next : (k : ℕ) → lineStart (suc k) ≡ lineStart k + widthOf k + 33

@@ -6,7 +6,7 @@ use Prim.Native.String as Str
 use Prim.Native.String.{String}
 use mathlib.Core.List.{List, [], _∷_, _++_, map}
 use mathlib.Core.Bool.{cond}
-use lib.Dec.{leb}
+use lib.Dec.{eqb, leb}
 use lib.ListN.{length, getD, replicate}
 use Rattle.calendar.specs.Said.{Said, answer, refusal, refused}
 use Rattle.text.specs.declared.Kind.{Kind}
@@ -106,6 +106,21 @@ widths = map (λ (f : Field). f .width) fields
 
 unfoldable pub kinds : List Kind
 kinds = map (λ (f : Field). f .kind) fields
+
+-- the kinds as numbers
+abbrev pub codeOf : Kind → ℕ
+codeOf Text = 0
+codeOf Unsigned = 1
+codeOf Count = 2
+codeOf Signed = 3
+codeOf Time = 4
+codeOf LongTime = 5
+
+abbrev pub kindFrom : ℕ → Kind
+kindFrom n = cond (eqb n 0) Text (cond (eqb n 1) Unsigned (cond (eqb n 2) Count (cond (eqb n 3) Signed (cond (eqb n 4) Time LongTime))))
+
+unfoldable pub codes : List ℕ
+codes = map codeOf kinds
 
 -- the bytes of a text
 abbrev pub bytesOf : String → List ℕ

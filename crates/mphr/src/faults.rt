@@ -1,8 +1,10 @@
 // The first of the faults 1 to 5 and 10 that an arrival shows of its main product header: one pass over its lines, which stops at the
 // first line that has not wholly come.
+use crate::layout::KINDS;
 use crate::layout::NAMES;
-use crate::layout::kind;
-use crate::layout::width;
+use crate::layout::WIDTHS;
+use crate::layout::kind_at;
+use crate::layout::width_at;
 use calendar::Refusal;
 use meter::integer::Unsigned;
 use text::Number;
@@ -14,7 +16,7 @@ ghost use lib.ListN.{length};
 ghost use Rattle.meter.specs.Integer.{beAt};
 ghost use Rattle.meter.specs.General.{numberOf};
 ghost use Rattle.text.specs.Field.{isNumber};
-ghost use Rattle.mphr.specs.Layout.{names, widthOf, lineStart};
+ghost use Rattle.mphr.specs.Layout.{names, widths, codes, widthOf, lineStart};
 ghost use Rattle.mphr.specs.Table.{headed, named, framed, declared, total, sum, FirstIs};
 ghost use Rattle.mphr.specs.Turning.{AlikeIs, Later, Counts, Ready, TurnedIs, refusedAt};
 
@@ -187,11 +189,18 @@ fn refused(number: u8, place: usize) -> Turned
 }
 
 // One line.
-fn turn(s: &[u8], table: &[u8], k: usize, at: usize) -> Turned
-    requires { ⌜ Ready (now s) k at × (now table ≡ names) ⌝ }
+fn turn(
+    s: &[u8],
+    table: &[u8],
+    width_table: &[u8; 72],
+    kind_table: &[u8; 72],
+    k: usize,
+    at: usize,
+) -> Turned
+    requires { ⌜ Ready (now s) k at × (now table ≡ names) × (now «width_table» ≡ widths) × (now «kind_table» ≡ codes) ⌝ }
     ensures { λ r. ⌜ TurnedIs (now (s .entry)) k r ⌝ }
 {
-    let w = width(k);
+    let w = width_at(width_table, k);
     let to = at + w + 33;
     if s.len() < to {
         return Turned::Stop(HeaderFault::Clean);
@@ -199,7 +208,7 @@ fn turn(s: &[u8], table: &[u8], k: usize, at: usize) -> Turned
     if !is_framed(s, table, k, at, w) {
         return refused(2, at);
     }
-    if !text::is_value(s, at + 32, w, kind(k)) {
+    if !text::is_value(s, at + 32, w, kind_at(kind_table, k)) {
         return refused(3, at + 32);
     }
     let h = later(s, k);
@@ -233,10 +242,12 @@ pub fn header_fault(s: &[u8]) -> HeaderFault
     }
     // Once: a const array is copied where it is named.
     let table = NAMES;
+    let width_table = WIDTHS;
+    let kind_table = KINDS;
     let mut k: usize = 0;
     let mut at: usize = 20;
     while k < 72 {
-        match turn(s, &table, k, at) {
+        match turn(s, &table, &width_table, &kind_table, k, at) {
             Turned::Stop(f) => {
                 return f;
             }

@@ -4,7 +4,7 @@ use text::Kind;
 ghost use mathlib.Core.Path.{_≡_};
 ghost use Prim.Native.Nat.{_≤_, _<_};
 ghost use lib.ListN.{getD};
-ghost use Rattle.mphr.specs.Layout.{names, widthOf, kindOf, lineStart, fieldOf, saidPlace};
+ghost use Rattle.mphr.specs.Layout.{names, widths, kindFrom, codes, widthOf, kindOf, lineStart, fieldOf, saidPlace};
 
 // A field: where its line starts, how wide its value is, and of which kind.
 pub struct Place {
@@ -92,7 +92,7 @@ MILLISECONDS_OF_DATA_PRESENT  \
 MILLISECONDS_OF_DATA_MISSING  \
 SUBSETTED_PRODUCT             ";
 
-const WIDTHS: [u8; 72] = [
+pub(crate) const WIDTHS: [u8; 72] = [
     67,
     67,
     67,
@@ -242,79 +242,92 @@ const STARTS: [usize; 72] = [
     3273,
 ];
 
-const KINDS: [Kind; 72] = [
-    Kind::Text,
-    Kind::Text,
-    Kind::Text,
-    Kind::Text,
-    Kind::Text,
-    Kind::Text,
-    Kind::Text,
-    Kind::Text,
-    Kind::Text,
-    Kind::Text,
-    Kind::Time,
-    Kind::Time,
-    Kind::Time,
-    Kind::Time,
-    Kind::Text,
-    Kind::Unsigned,
-    Kind::Unsigned,
-    Kind::Unsigned,
-    Kind::Unsigned,
-    Kind::Time,
-    Kind::Time,
-    Kind::Text,
-    Kind::Text,
-    Kind::Text,
-    Kind::Time,
-    Kind::Time,
-    Kind::Unsigned,
-    Kind::Unsigned,
-    Kind::Count,
-    Kind::LongTime,
-    Kind::Signed,
-    Kind::Signed,
-    Kind::Signed,
-    Kind::Signed,
-    Kind::Signed,
-    Kind::Signed,
-    Kind::Signed,
-    Kind::Signed,
-    Kind::Signed,
-    Kind::Signed,
-    Kind::Signed,
-    Kind::Signed,
-    Kind::Signed,
-    Kind::Signed,
-    Kind::Signed,
-    Kind::Signed,
-    Kind::Signed,
-    Kind::Signed,
-    Kind::Signed,
-    Kind::Signed,
-    Kind::Signed,
-    Kind::Signed,
-    Kind::Signed,
-    Kind::Signed,
-    Kind::Time,
-    Kind::Count,
-    Kind::Count,
-    Kind::Count,
-    Kind::Count,
-    Kind::Count,
-    Kind::Count,
-    Kind::Count,
-    Kind::Count,
-    Kind::Count,
-    Kind::Unsigned,
-    Kind::Unsigned,
-    Kind::Unsigned,
-    Kind::Unsigned,
-    Kind::Unsigned,
-    Kind::Unsigned,
-    Kind::Unsigned,
-    Kind::Text,
+// The kinds as numbers: an array of enums cannot be lent.
+const TEXT: u8 = 0;
+
+const UNSIGNED: u8 = 1;
+
+const COUNT: u8 = 2;
+
+const SIGNED: u8 = 3;
+
+const TIME: u8 = 4;
+
+const LONG_TIME: u8 = 5;
+
+pub(crate) const KINDS: [u8; 72] = [
+    TEXT,
+    TEXT,
+    TEXT,
+    TEXT,
+    TEXT,
+    TEXT,
+    TEXT,
+    TEXT,
+    TEXT,
+    TEXT,
+    TIME,
+    TIME,
+    TIME,
+    TIME,
+    TEXT,
+    UNSIGNED,
+    UNSIGNED,
+    UNSIGNED,
+    UNSIGNED,
+    TIME,
+    TIME,
+    TEXT,
+    TEXT,
+    TEXT,
+    TIME,
+    TIME,
+    UNSIGNED,
+    UNSIGNED,
+    COUNT,
+    LONG_TIME,
+    SIGNED,
+    SIGNED,
+    SIGNED,
+    SIGNED,
+    SIGNED,
+    SIGNED,
+    SIGNED,
+    SIGNED,
+    SIGNED,
+    SIGNED,
+    SIGNED,
+    SIGNED,
+    SIGNED,
+    SIGNED,
+    SIGNED,
+    SIGNED,
+    SIGNED,
+    SIGNED,
+    SIGNED,
+    SIGNED,
+    SIGNED,
+    SIGNED,
+    SIGNED,
+    SIGNED,
+    TIME,
+    COUNT,
+    COUNT,
+    COUNT,
+    COUNT,
+    COUNT,
+    COUNT,
+    COUNT,
+    COUNT,
+    COUNT,
+    UNSIGNED,
+    UNSIGNED,
+    UNSIGNED,
+    UNSIGNED,
+    UNSIGNED,
+    UNSIGNED,
+    UNSIGNED,
+    TEXT,
 ];
 
 pub(crate) fn name_byte(k: usize) -> u8
@@ -324,11 +337,26 @@ pub(crate) fn name_byte(k: usize) -> u8
     NAMES[k]
 }
 
+fn size_of(b: u8) -> usize
+    ensures { λ r. ⌜ r ≡ b ⌝ }
+{
+    b as usize
+}
+
+// The width of line k, by the array that is lent.
+pub(crate) fn width_at(table: &[u8; 72], k: usize) -> usize
+    requires { ⌜ (k < 72) × (now table ≡ widths) ⌝ }
+    ensures { λ r. ⌜ (r ≡ widthOf k) × (r ≤ 67) ⌝ }
+{
+    size_of(table[k])
+}
+
 pub(crate) fn width(k: usize) -> usize
     requires { ⌜ k < 72 ⌝ }
     ensures { λ r. ⌜ (r ≡ widthOf k) × (r ≤ 67) ⌝ }
 {
-    WIDTHS[k] as usize
+    let table = WIDTHS;
+    width_at(&table, k)
 }
 
 pub(crate) fn start(k: usize) -> usize
@@ -338,11 +366,41 @@ pub(crate) fn start(k: usize) -> usize
     STARTS[k]
 }
 
+fn kind_of(code: u8) -> Kind
+    ensures { λ r. ⌜ r ≡ kindFrom code ⌝ }
+{
+    if code == TEXT {
+        return Kind::Text;
+    }
+    if code == UNSIGNED {
+        return Kind::Unsigned;
+    }
+    if code == COUNT {
+        return Kind::Count;
+    }
+    if code == SIGNED {
+        return Kind::Signed;
+    }
+    if code == TIME {
+        return Kind::Time;
+    }
+    Kind::LongTime
+}
+
+// The kind of line k, by the array that is lent.
+pub(crate) fn kind_at(table: &[u8; 72], k: usize) -> Kind
+    requires { ⌜ (k < 72) × (now table ≡ codes) ⌝ }
+    ensures { λ r. ⌜ r ≡ kindOf k ⌝ }
+{
+    kind_of(table[k])
+}
+
 pub(crate) fn kind(k: usize) -> Kind
     requires { ⌜ k < 72 ⌝ }
     ensures { λ r. ⌜ r ≡ kindOf k ⌝ }
 {
-    KINDS[k]
+    let table = KINDS;
+    kind_at(&table, k)
 }
 
 // The place of a field by its number; 22 where the number is not 0 to 71.

@@ -5,7 +5,7 @@ use Rattle.mphr.proofs.TurnLaws.{wait-first, refuse-1, refuse-10, begin
 use Rattle.mphr.specs.declared.faults.Turned.the-variants.{Stop, Go}
 use Rattle.mphr.specs.declared.faults.Turned.{Turned}
 use Rattle.mphr.specs.Turning.{Past, Gone, TurnedIs}
-use Rattle.mphr.specs.Layout.{fields, rows, names, lineStart}
+use Rattle.mphr.specs.Layout.{fields, rows, names, widths, kinds, codes, lineStart}
 use lib.ListN.{length}
 use Prim.Native.Nat.{ℕ, _-_, _≤_}
 use denote.Ref.{now}
@@ -17,15 +17,16 @@ use Rattle.mphr.proofs.faults.header_fault.Tie as tie
 use borrow.Author.Needs.{needs}
 
 abbrev Inv-loop : tie.InvT-loop
-Inv-loop s table k₀ at₀ k at = (k ≤ 72) × (at ≡ lineStart k) × (at ≤ length s) × Past s k × (table ≡ names)
+Inv-loop s table width-table kind-table k₀ at₀ k at =
+    (k ≤ 72) × (at ≡ lineStart k) × (at ≤ length s) × Past s k × (table ≡ names) × (width-table ≡ widths) × (kind-table ≡ codes)
 
 abbrev μ-loop : tie.MeasureT-loop
-μ-loop s table k₀ at₀ k at = 72 - k
+μ-loop s table width-table kind-table k₀ at₀ k at = 72 - k
 
-told : (c : tie.After-turn Inv-loop μ-loop) (r : Turned) → c .turn .result ≡ r → TurnedIs (now (c .before .before .before .before .before .before .before .before .before .before .args .s)) (c .before .before .before .loop .k) r
-told c r e = subst (TurnedIs (now (c .before .before .before .before .before .before .before .before .before .before .args .s)) (c .before .before .before .loop .k)) e (c .turn .ensures)
+told : (c : tie.After-turn Inv-loop μ-loop) (r : Turned) → c .turn .result ≡ r → TurnedIs (now (c .before .before .before .before .before .before .before .before .before .before .before .before .args .s)) (c .before .before .before .before .before .loop .k) r
+told c r e = subst (TurnedIs (now (c .before .before .before .before .before .before .before .before .before .before .before .before .args .s)) (c .before .before .before .before .before .loop .k)) e (c .turn .ensures)
 
-gone : (c : tie.After-known-told2 Inv-loop μ-loop) → Gone (now (c .before .before .before .before .before .before .before .before .before .before .before .before .before .args .s)) (c .before .before .before .before .before .before .loop .k) (c .before .to .given .0 .0)
+gone : (c : tie.After-known-told2 Inv-loop μ-loop) → Gone (now (c .before .before .before .before .before .before .before .before .before .before .before .before .before .before .before .args .s)) (c .before .before .before .before .before .before .before .before .loop .k) (c .before .to .given .0 .0)
 gone c = told (c .before .before .before) (Go (c .before .to .given .0 .0)) (c .before .to .given .1)
 
 returns : tie.Need-returns Inv-loop μ-loop
@@ -44,14 +45,14 @@ returns-3 : tie.Need-returns-3 Inv-loop μ-loop
 returns-3 c = refuse-10 (sym (c .before .before .before .is-headed .ensures) ∙ not-false (c .before .before .before .is-headed .result) (c .before .before .if2 .left)) (sym (stands _ 0 (c .before .times-stand .result) (omega arith) (c .before .times-stand .ensures)) ∙ not-true (c .before .times-stand .result) (c .if3 .taken)) (omega arith)
 
 loop-holds : tie.Need-loop-holds Inv-loop μ-loop
-unfolding fields rows names
-loop-holds c = (omega arith, sym start-0, omega arith, begin (sym (c .before .before .before .is-headed .ensures) ∙ not-false (c .before .before .before .is-headed .result) (c .before .before .if2 .left)) (sym (stands _ 0 (c .before .times-stand .result) (omega arith) (c .before .times-stand .ensures)) ∙ not-false (c .before .times-stand .result) (c .if3 .left)), refl)
+unfolding fields rows names widths kinds codes
+loop-holds c = (omega arith, sym start-0, omega arith, begin (sym (c .before .before .before .is-headed .ensures) ∙ not-false (c .before .before .before .is-headed .result) (c .before .before .if2 .left)) (sym (stands _ 0 (c .before .times-stand .result) (omega arith) (c .before .times-stand .ensures)) ∙ not-false (c .before .times-stand .result) (c .if3 .left)), refl, refl, refl)
 
 slice-aggregate-turn : tie.Need-slice-aggregate-turn Inv-loop μ-loop
 slice-aggregate-turn c = search needs
 
 turn-requires : tie.Need-turn-requires Inv-loop μ-loop
-turn-requires c κs = let i = c .before .before .loop .inv in (record { line = c .before .loop-test .taken; at-is = i .1; come = i .2; past = i .3 }, i .4)
+turn-requires c κs = let i = c .before .before .before .before .loop .inv in (record { line = c .before .before .before .loop-test .taken; at-is = i .1; come = i .2; past = i .3 }, i .4, i .5, i .6)
 
 enum-known-f : tie.Need-enum-known-f Inv-loop μ-loop
 enum-known-f c = search needs
@@ -69,7 +70,10 @@ loop-less : tie.Need-loop-less Inv-loop μ-loop
 loop-less c = omega arith
 
 loop-again : tie.Need-loop-again Inv-loop μ-loop
-loop-again c = let g = gone-at (gone c) in (omega arith, g .0, g .1, g .2, c .before .before .before .before .before .before .loop .inv .4)
+loop-again c =
+    let g = gone-at (gone c) in
+    let i = c .before .before .before .before .before .before .before .before .loop .inv in
+    (omega arith, g .0, g .1, g .2, i .4, i .5, i .6)
 
 returns-5 : tie.Need-returns-5 Inv-loop μ-loop
 returns-5 c = whole (c .loop-test .left) (c .before .loop .inv .3)

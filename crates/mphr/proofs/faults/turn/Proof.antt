@@ -10,8 +10,8 @@ use borrow.Author.Needs.{needs}
 use Rattle.mphr.proofs.faults.turn.Statement.{statement}
 use Rattle.mphr.proofs.faults.turn.Tie as tie
 
-width-requires : tie.Need-width-requires
-width-requires c κs = search needs
+width-at-requires : tie.Need-width-at-requires
+width-at-requires c κs = search needs
 
 add-to : tie.Need-add-to
 add-to c = search needs
@@ -20,7 +20,7 @@ add-to-2 : tie.Need-add-to-2
 add-to-2 c = search needs
 
 returns : tie.Need-returns
-returns c = say-wait (c .before .before .before .before .pre .0) (c .before .width .ensures .0) (c .if1 .taken)
+returns c = say-wait (c .before .before .before .before .pre .0) (c .before .width-at .ensures .0) (c .if1 .taken)
 
 is-framed-requires : tie.Need-is-framed-requires
 is-framed-requires c κs = search needs
@@ -29,13 +29,13 @@ refused-requires : tie.Need-refused-requires
 refused-requires c κs = search needs
 
 returns-2 : tie.Need-returns-2
-returns-2 c = subst (TurnedIs (now (c .before .before .before .before .before .before .before .args .s)) (c .before .before .before .before .before .before .before .args .k)) (sym (c .refused .ensures)) (say-2 (c .before .before .before .before .before .before .before .pre .0) (c .before .before .before .before .width .ensures .0) (c .before .before .before .if1 .left) (sym (c .before .before .is-framed .ensures) ∙ not-true (c .before .before .is-framed .result) (c .before .if2 .taken)))
+returns-2 c = subst (TurnedIs (now (c .before .before .before .before .before .before .before .args .s)) (c .before .before .before .before .before .before .before .args .k)) (sym (c .refused .ensures)) (say-2 (c .before .before .before .before .before .before .before .pre .0) (c .before .before .before .before .width-at .ensures .0) (c .before .before .before .if1 .left) (sym (c .before .before .is-framed .ensures) ∙ not-true (c .before .before .is-framed .result) (c .before .if2 .taken)))
 
 add-is-value : tie.Need-add-is-value
 add-is-value c = search needs
 
-kind-requires : tie.Need-kind-requires
-kind-requires c κs = search needs
+kind-at-requires : tie.Need-kind-at-requires
+kind-at-requires c κs = search needs
 
 is-value-requires : tie.Need-is-value-requires
 is-value-requires c κs = search needs
@@ -47,31 +47,31 @@ refused-requires-2 : tie.Need-refused-requires-2
 refused-requires-2 c κs = search needs
 
 returns-3 : tie.Need-returns-3
-returns-3 c = subst (TurnedIs (now (c .before .before .before .before .before .before .before .before .before .before .args .s)) (c .before .before .before .before .before .before .before .before .before .before .args .k)) (sym (c .refused2 .ensures)) (say-3 (c .before .before .before .before .before .before .before .before .before .before .pre .0) (c .before .before .before .before .before .before .before .width .ensures .0) (c .before .before .before .before .before .before .if1 .left) (sym (c .before .before .before .before .before .is-framed .ensures) ∙ not-false (c .before .before .before .before .before .is-framed .result) (c .before .before .before .before .if2 .left)) (sym (value-is (now (c .before .before .before .before .before .before .before .before .before .before .args .s)) (c .before .before .before .before .before .before .before .before .before .before .args .k) (c .before .before .before .before .before .before .before .before .before .before .args .at) (c .before .before .before .before .before .before .before .width .result) (c .before .before .before .before .before .before .before .before .before .before .pre .0 .at-is) (c .before .before .before .before .before .before .before .width .ensures .0) (c .before .before .before .kind .result) (c .before .before .is-value .result) (c .before .before .before .kind .ensures) (c .before .before .before .before .before .before .if1 .left) (c .before .before .is-value .ensures)) ∙ not-true (c .before .before .is-value .result) (c .before .if3 .taken)))
+returns-3 c = subst (TurnedIs (now (c .before .before .before .before .before .before .before .before .before .before .args .s)) (c .before .before .before .before .before .before .before .before .before .before .args .k)) (sym (c .refused2 .ensures)) (say-3 (c .before .before .before .before .before .before .before .before .before .before .pre .0) (c .before .before .before .before .before .before .before .width-at .ensures .0) (c .before .before .before .before .before .before .if1 .left) (sym (c .before .before .before .before .before .is-framed .ensures) ∙ not-false (c .before .before .before .before .before .is-framed .result) (c .before .before .before .before .if2 .left)) (sym (value-is (now (c .before .before .before .before .before .before .before .before .before .before .args .s)) (c .before .before .before .before .before .before .before .before .before .before .args .k) (c .before .before .before .before .before .before .before .before .before .before .args .at) (c .before .before .before .before .before .before .before .width-at .result) (c .before .before .before .before .before .before .before .before .before .before .pre .0 .at-is) (c .before .before .before .before .before .before .before .width-at .ensures .0) (c .before .before .before .kind-at .result) (c .before .before .is-value .result) (c .before .before .before .kind-at .ensures) (c .before .before .before .before .before .before .if1 .left) (c .before .before .is-value .ensures)) ∙ not-true (c .before .before .is-value .result) (c .before .if3 .taken)))
 
 later-requires : tie.Need-later-requires
-later-requires c κs = (say-size (c .before .before .before .before .before .before .before .before .before .pre .0) (c .before .before .before .before .before .before .width .ensures .0) (c .before .before .before .before .before .if1 .left) (sym (c .before .before .before .before .is-framed .ensures) ∙ not-false (c .before .before .before .before .is-framed .result) (c .before .before .before .if2 .left)) (sym (value-is (now (c .before .before .before .before .before .before .before .before .before .args .s)) (c .before .before .before .before .before .before .before .before .before .args .k) (c .before .before .before .before .before .before .before .before .before .args .at) (c .before .before .before .before .before .before .width .result) (c .before .before .before .before .before .before .before .before .before .pre .0 .at-is) (c .before .before .before .before .before .before .width .ensures .0) (c .before .before .kind .result) (c .before .is-value .result) (c .before .before .kind .ensures) (c .before .before .before .before .before .if1 .left) (c .before .is-value .ensures)) ∙ not-false (c .before .is-value .result) (c .if3 .left)), say-counts (c .before .before .before .before .before .before .before .before .before .pre .0) (c .before .before .before .before .before .before .width .ensures .0) (c .before .before .before .before .before .if1 .left) (sym (c .before .before .before .before .is-framed .ensures) ∙ not-false (c .before .before .before .before .is-framed .result) (c .before .before .before .if2 .left)) (sym (value-is (now (c .before .before .before .before .before .before .before .before .before .args .s)) (c .before .before .before .before .before .before .before .before .before .args .k) (c .before .before .before .before .before .before .before .before .before .args .at) (c .before .before .before .before .before .before .width .result) (c .before .before .before .before .before .before .before .before .before .pre .0 .at-is) (c .before .before .before .before .before .before .width .ensures .0) (c .before .before .kind .result) (c .before .is-value .result) (c .before .before .kind .ensures) (c .before .before .before .before .before .if1 .left) (c .before .is-value .ensures)) ∙ not-false (c .before .is-value .result) (c .if3 .left)))
+later-requires c κs = (say-size (c .before .before .before .before .before .before .before .before .before .pre .0) (c .before .before .before .before .before .before .width-at .ensures .0) (c .before .before .before .before .before .if1 .left) (sym (c .before .before .before .before .is-framed .ensures) ∙ not-false (c .before .before .before .before .is-framed .result) (c .before .before .before .if2 .left)) (sym (value-is (now (c .before .before .before .before .before .before .before .before .before .args .s)) (c .before .before .before .before .before .before .before .before .before .args .k) (c .before .before .before .before .before .before .before .before .before .args .at) (c .before .before .before .before .before .before .width-at .result) (c .before .before .before .before .before .before .before .before .before .pre .0 .at-is) (c .before .before .before .before .before .before .width-at .ensures .0) (c .before .before .kind-at .result) (c .before .is-value .result) (c .before .before .kind-at .ensures) (c .before .before .before .before .before .if1 .left) (c .before .is-value .ensures)) ∙ not-false (c .before .is-value .result) (c .if3 .left)), say-counts (c .before .before .before .before .before .before .before .before .before .pre .0) (c .before .before .before .before .before .before .width-at .ensures .0) (c .before .before .before .before .before .if1 .left) (sym (c .before .before .before .before .is-framed .ensures) ∙ not-false (c .before .before .before .before .is-framed .result) (c .before .before .before .if2 .left)) (sym (value-is (now (c .before .before .before .before .before .before .before .before .before .args .s)) (c .before .before .before .before .before .before .before .before .before .args .k) (c .before .before .before .before .before .before .before .before .before .args .at) (c .before .before .before .before .before .before .width-at .result) (c .before .before .before .before .before .before .before .before .before .pre .0 .at-is) (c .before .before .before .before .before .before .width-at .ensures .0) (c .before .before .kind-at .result) (c .before .is-value .result) (c .before .before .kind-at .ensures) (c .before .before .before .before .before .if1 .left) (c .before .is-value .ensures)) ∙ not-false (c .before .is-value .result) (c .if3 .left)))
 
 refused-requires-3 : tie.Need-refused-requires-3
 refused-requires-3 c κs = search needs
 
 returns-4 : tie.Need-returns-4
-returns-4 c = subst (TurnedIs (now (c .before .before .before .before .before .before .before .before .before .before .before .before .args .s)) (c .before .before .before .before .before .before .before .before .before .before .before .before .args .k)) (sym (c .refused3 .ensures)) (say-4 (c .before .before .before .before .before .before .before .before .before .before .before .before .pre .0) (c .before .before .before .before .before .before .before .before .before .width .ensures .0) (c .before .before .before .before .before .before .before .before .if1 .left) (sym (c .before .before .before .before .before .before .before .is-framed .ensures) ∙ not-false (c .before .before .before .before .before .before .before .is-framed .result) (c .before .before .before .before .before .before .if2 .left)) (sym (value-is (now (c .before .before .before .before .before .before .before .before .before .before .before .before .args .s)) (c .before .before .before .before .before .before .before .before .before .before .before .before .args .k) (c .before .before .before .before .before .before .before .before .before .before .before .before .args .at) (c .before .before .before .before .before .before .before .before .before .width .result) (c .before .before .before .before .before .before .before .before .before .before .before .before .pre .0 .at-is) (c .before .before .before .before .before .before .before .before .before .width .ensures .0) (c .before .before .before .before .before .kind .result) (c .before .before .before .before .is-value .result) (c .before .before .before .before .before .kind .ensures) (c .before .before .before .before .before .before .before .before .if1 .left) (c .before .before .before .before .is-value .ensures)) ∙ not-false (c .before .before .before .before .is-value .result) (c .before .before .before .if3 .left)) (c .before .before .later .ensures) (c .before .if4 .taken))
+returns-4 c = subst (TurnedIs (now (c .before .before .before .before .before .before .before .before .before .before .before .before .args .s)) (c .before .before .before .before .before .before .before .before .before .before .before .before .args .k)) (sym (c .refused3 .ensures)) (say-4 (c .before .before .before .before .before .before .before .before .before .before .before .before .pre .0) (c .before .before .before .before .before .before .before .before .before .width-at .ensures .0) (c .before .before .before .before .before .before .before .before .if1 .left) (sym (c .before .before .before .before .before .before .before .is-framed .ensures) ∙ not-false (c .before .before .before .before .before .before .before .is-framed .result) (c .before .before .before .before .before .before .if2 .left)) (sym (value-is (now (c .before .before .before .before .before .before .before .before .before .before .before .before .args .s)) (c .before .before .before .before .before .before .before .before .before .before .before .before .args .k) (c .before .before .before .before .before .before .before .before .before .before .before .before .args .at) (c .before .before .before .before .before .before .before .before .before .width-at .result) (c .before .before .before .before .before .before .before .before .before .before .before .before .pre .0 .at-is) (c .before .before .before .before .before .before .before .before .before .width-at .ensures .0) (c .before .before .before .before .before .kind-at .result) (c .before .before .before .before .is-value .result) (c .before .before .before .before .before .kind-at .ensures) (c .before .before .before .before .before .before .before .before .if1 .left) (c .before .before .before .before .is-value .ensures)) ∙ not-false (c .before .before .before .before .is-value .result) (c .before .before .before .if3 .left)) (c .before .before .later .ensures) (c .before .if4 .taken))
 
 refused-requires-4 : tie.Need-refused-requires-4
 refused-requires-4 c κs = search needs
 
 returns-5 : tie.Need-returns-5
-returns-5 c = subst (TurnedIs (now (c .before .before .before .before .before .before .before .before .before .before .before .before .before .args .s)) (c .before .before .before .before .before .before .before .before .before .before .before .before .before .args .k)) (sym (c .refused4 .ensures)) (say-5 (c .before .before .before .before .before .before .before .before .before .before .before .before .before .pre .0) (c .before .before .before .before .before .before .before .before .before .before .width .ensures .0) (c .before .before .before .before .before .before .before .before .before .if1 .left) (sym (c .before .before .before .before .before .before .before .before .is-framed .ensures) ∙ not-false (c .before .before .before .before .before .before .before .before .is-framed .result) (c .before .before .before .before .before .before .before .if2 .left)) (sym (value-is (now (c .before .before .before .before .before .before .before .before .before .before .before .before .before .args .s)) (c .before .before .before .before .before .before .before .before .before .before .before .before .before .args .k) (c .before .before .before .before .before .before .before .before .before .before .before .before .before .args .at) (c .before .before .before .before .before .before .before .before .before .before .width .result) (c .before .before .before .before .before .before .before .before .before .before .before .before .before .pre .0 .at-is) (c .before .before .before .before .before .before .before .before .before .before .width .ensures .0) (c .before .before .before .before .before .before .kind .result) (c .before .before .before .before .before .is-value .result) (c .before .before .before .before .before .before .kind .ensures) (c .before .before .before .before .before .before .before .before .before .if1 .left) (c .before .before .before .before .before .is-value .ensures)) ∙ not-false (c .before .before .before .before .before .is-value .result) (c .before .before .before .before .if3 .left)) (c .before .before .before .later .ensures) (c .before .if5 .taken))
+returns-5 c = subst (TurnedIs (now (c .before .before .before .before .before .before .before .before .before .before .before .before .before .args .s)) (c .before .before .before .before .before .before .before .before .before .before .before .before .before .args .k)) (sym (c .refused4 .ensures)) (say-5 (c .before .before .before .before .before .before .before .before .before .before .before .before .before .pre .0) (c .before .before .before .before .before .before .before .before .before .before .width-at .ensures .0) (c .before .before .before .before .before .before .before .before .before .if1 .left) (sym (c .before .before .before .before .before .before .before .before .is-framed .ensures) ∙ not-false (c .before .before .before .before .before .before .before .before .is-framed .result) (c .before .before .before .before .before .before .before .if2 .left)) (sym (value-is (now (c .before .before .before .before .before .before .before .before .before .before .before .before .before .args .s)) (c .before .before .before .before .before .before .before .before .before .before .before .before .before .args .k) (c .before .before .before .before .before .before .before .before .before .before .before .before .before .args .at) (c .before .before .before .before .before .before .before .before .before .before .width-at .result) (c .before .before .before .before .before .before .before .before .before .before .before .before .before .pre .0 .at-is) (c .before .before .before .before .before .before .before .before .before .before .width-at .ensures .0) (c .before .before .before .before .before .before .kind-at .result) (c .before .before .before .before .before .is-value .result) (c .before .before .before .before .before .before .kind-at .ensures) (c .before .before .before .before .before .before .before .before .before .if1 .left) (c .before .before .before .before .before .is-value .ensures)) ∙ not-false (c .before .before .before .before .before .is-value .result) (c .before .before .before .before .if3 .left)) (c .before .before .before .later .ensures) (c .before .if5 .taken))
 
 returns-6 : tie.Need-returns-6
-returns-6 c = say-go (c .before .before .before .before .before .before .before .before .before .before .before .before .pre .0) (c .before .before .before .before .before .before .before .before .before .width .ensures .0) (c .before .before .before .before .before .before .before .before .if1 .left) (sym (c .before .before .before .before .before .before .before .is-framed .ensures) ∙ not-false (c .before .before .before .before .before .before .before .is-framed .result) (c .before .before .before .before .before .before .if2 .left)) (sym (value-is (now (c .before .before .before .before .before .before .before .before .before .before .before .before .args .s)) (c .before .before .before .before .before .before .before .before .before .before .before .before .args .k) (c .before .before .before .before .before .before .before .before .before .before .before .before .args .at) (c .before .before .before .before .before .before .before .before .before .width .result) (c .before .before .before .before .before .before .before .before .before .before .before .before .pre .0 .at-is) (c .before .before .before .before .before .before .before .before .before .width .ensures .0) (c .before .before .before .before .before .kind .result) (c .before .before .before .before .is-value .result) (c .before .before .before .before .before .kind .ensures) (c .before .before .before .before .before .before .before .before .if1 .left) (c .before .before .before .before .is-value .ensures)) ∙ not-false (c .before .before .before .before .is-value .result) (c .before .before .before .if3 .left)) (c .before .before .later .ensures) (c .before .if4 .left) (c .if5 .left)
+returns-6 c = say-go (c .before .before .before .before .before .before .before .before .before .before .before .before .pre .0) (c .before .before .before .before .before .before .before .before .before .width-at .ensures .0) (c .before .before .before .before .before .before .before .before .if1 .left) (sym (c .before .before .before .before .before .before .before .is-framed .ensures) ∙ not-false (c .before .before .before .before .before .before .before .is-framed .result) (c .before .before .before .before .before .before .if2 .left)) (sym (value-is (now (c .before .before .before .before .before .before .before .before .before .before .before .before .args .s)) (c .before .before .before .before .before .before .before .before .before .before .before .before .args .k) (c .before .before .before .before .before .before .before .before .before .before .before .before .args .at) (c .before .before .before .before .before .before .before .before .before .width-at .result) (c .before .before .before .before .before .before .before .before .before .before .before .before .pre .0 .at-is) (c .before .before .before .before .before .before .before .before .before .width-at .ensures .0) (c .before .before .before .before .before .kind-at .result) (c .before .before .before .before .is-value .result) (c .before .before .before .before .before .kind-at .ensures) (c .before .before .before .before .before .before .before .before .if1 .left) (c .before .before .before .before .is-value .ensures)) ∙ not-false (c .before .before .before .before .is-value .result) (c .before .before .before .if3 .left)) (c .before .before .later .ensures) (c .before .if4 .left) (c .if5 .left)
 
 pub turn-spec : {M : Type 1} → statement M
 turn-spec =
     tie.close
     (tie.spec
-    width-requires
+    width-at-requires
     add-to
     add-to-2
     returns
@@ -79,7 +79,7 @@ turn-spec =
     refused-requires
     returns-2
     add-is-value
-    kind-requires
+    kind-at-requires
     is-value-requires
     add-refused
     refused-requires-2

@@ -1,16 +1,16 @@
 -- `mphr::layout::kind` meets its contract: the const array is the kinds of the layout, by one computed test. Assumes nothing.
 use mathlib.Core.Path.{refl}
-use Rattle.mphr.specs.Layout.{fields, kinds, kindOf}
+use Rattle.mphr.specs.Layout.{fields, kinds, codes}
 use borrow.Author.Needs.{needs}
 use Rattle.mphr.proofs.layout.kind.Statement.{statement}
 use Rattle.mphr.proofs.layout.kind.Tie as tie
 
-array-copy-out-result : tie.Need-array-copy-out-result
-array-copy-out-result c = search needs
+kind-at-requires : tie.Need-kind-at-requires
+unfolding fields kinds codes
+kind-at-requires c κs = (search needs, refl)
 
 returns : tie.Need-returns
-unfolding fields kinds kindOf
-returns c = refl
+returns c = search needs
 
 pub kind-spec : {M : Type 1} → statement M
-kind-spec = tie.close (tie.spec array-copy-out-result returns)
+kind-spec = tie.close (tie.spec kind-at-requires returns)

@@ -7,3 +7,4 @@ pub mod TurnLaws
 pub mod CountLaws
 pub mod Covering
 pub mod PaceLaws
+pub mod TimesLaws

@@ -9,7 +9,7 @@ ghost use Rattle.record.specs.Header.{isClass};
 ghost use Rattle.record.specs.Follow.{mayFollow, Ruled};
 ghost use Rattle.judge.specs.Step.{Ranked, Ranking, SizedIs, SixIn};
 
-fn wide(b: u8) -> usize
+pub(crate) fn wide(b: u8) -> usize
     ensures { λ r. ⌜ (r ≡ b) × (r < 256) ⌝ }
 {
     b as usize
@@ -113,7 +113,7 @@ pub(crate) fn rank(
     if !is_sized(class, size, left) {
         return 9;
     }
-    if !record::times::times_stand(s, at) {
+    if !crate::times::stand(s, at) {
         return 10;
     }
     if totals[class as usize] <= tally[class as usize] {

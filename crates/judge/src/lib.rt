@@ -5,3 +5,4 @@ pub mod arrival;
 mod header;
 mod pace;
 mod pointers;
+mod times;

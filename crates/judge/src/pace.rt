@@ -66,7 +66,7 @@ fn is_like(s: &[u8], follow: &[[bool; 8]; 8], pace: Pace, at: usize, prev: u8) -
     if !record::header::is_group(s[at + 1]) {
         return false;
     }
-    record::times::times_stand(s, at)
+    crate::times::surely_stand(s, at)
 }
 
 // It passes: it is like the last one, and its class has not all its records yet.

@@ -10,7 +10,6 @@ use lib.ListN.{getD}
 use Rattle.record.specs.Header.{isClass, isGroup}
 use Rattle.record.specs.Follow.{mayFollow}
 use Rattle.record.specs.Times.{timedAt}
-use Rattle.record.proofs.TimesLaws.{stands}
 use Rattle.judge.specs.Table.{Sound, Unknown, Misplaced}
 use Rattle.judge.specs.Step.{Six}
 use Rattle.judge.proofs.RankLaws.{clash, class-most, rank-6, rank-7, rank-8, rank-9, rank-10, rank-11, rank-12, unsound, six-of, not-six, sound-of, over, not-over, known, no-class, no-group}
@@ -25,7 +24,7 @@ use Rattle.judge.proofs.header.word.Reads as word-reads
 use Rattle.judge.proofs.header.may_follow.Reads as may-follow-reads
 use Rattle.record.proofs.header.is_class.Reads as is-class-reads
 use Rattle.record.proofs.header.is_group.Reads as is-group-reads
-use Rattle.record.proofs.times.times_stand.Reads as times-stand-reads
+use Rattle.record.proofs.times.times_stand.Reads as stand-reads
 
 shared-slice-read-class : tie.Need-shared-slice-read-class
 shared-slice-read-class c = search needs
@@ -105,8 +104,8 @@ returns-5 c =
     let e = f .before .before in
     rank-9 (no-six (e .before .before .before .before .before)) (not-unknown e) (not-misplaced f) (unsound (St (W3 e) .pre .0) refl (W3 e .word .ensures .0) (c .before .is-sized .ensures) (not-true (c .before .is-sized .result) (c .if5 .taken)))
 
-times-stand-requires : tie.Need-times-stand-requires
-times-stand-requires c κs = search needs
+stand-requires : tie.Need-stand-requires
+stand-requires c κs = St (W3 (c .before .before .before .before)) .pre .0 .come
 
 is-sound : (c : tie.Else5) → Sound (a (W3 (c .before .before .before .before))) (i (W3 (c .before .before .before .before)))
 is-sound c =
@@ -116,7 +115,7 @@ is-sound c =
 is-timed : (c : tie.Else6) → timedAt (a (W3 (c .before .before .before .before .before .before))) (i (W3 (c .before .before .before .before .before .before))) ≡ false → ⊥
 is-timed c n =
     let e = W3 (c .before .before .before .before .before .before) in
-    clash (sym n ∙ sym (stands (a e) (i e) (c .before .times-stand .result) (St e .pre .0 .come) (c .before .times-stand .ensures)) ∙ not-false (c .before .times-stand .result) (c .if6 .left))
+    clash (sym n ∙ sym (c .before .stand .ensures) ∙ not-false (c .before .stand .result) (c .if6 .left))
 
 eight : (c : tie.Else6) → getD (a (W3 (c .before .before .before .before .before .before))) (i (W3 (c .before .before .before .before .before .before))) 0 ≤ 8
 eight c = class-most (getD (a (W3 (c .before .before .before .before .before .before))) (i (W3 (c .before .before .before .before .before .before))) 0) (a-class (c .before .before .before .before .before .before .before .before .before)) .1
@@ -126,7 +125,7 @@ returns-6 c =
     let g = c .before .before in
     let f = g .before .before in
     let e = f .before .before in
-    rank-10 (no-six (e .before .before .before .before .before)) (not-unknown e) (not-misplaced f) (λ n. n (is-sound g)) (sym (stands (a (W3 e)) (i (W3 e)) (c .before .times-stand .result) (St (W3 e) .pre .0 .come) (c .before .times-stand .ensures)) ∙ not-true (c .before .times-stand .result) (c .if6 .taken))
+    rank-10 (no-six (e .before .before .before .before .before)) (not-unknown e) (not-misplaced f) (λ n. n (is-sound g)) (sym (c .before .stand .ensures) ∙ not-true (c .before .stand .result) (c .if6 .taken))
 
 cast-if7 : tie.Need-cast-if7
 cast-if7 c = record { fits = omega (arith, eight c) }
@@ -182,7 +181,7 @@ rank-spec =
     returns-4
     is-sized-requires
     returns-5
-    times-stand-requires
+    stand-requires
     returns-6
     cast-if7
     mul-if7

@@ -3,7 +3,6 @@ use denote.Ref.{now}
 use borrow.Author.Tests.{not-false}
 use mathlib.Core.Path.{sym, ap, _∙_}
 use Rattle.record.specs.Header.{isClass}
-use Rattle.record.proofs.TimesLaws.{stands}
 use Rattle.judge.proofs.RankLaws.{clash}
 use borrow.Author.Needs.{needs}
 use Rattle.judge.proofs.pace.is_like.Statement.{statement}
@@ -60,8 +59,8 @@ is-group-requires c κs = search needs
 returns-6 : tie.Need-returns-6
 returns-6 c = λ e. clash e
 
-times-stand-requires : tie.Need-times-stand-requires
-times-stand-requires c κs = search needs
+surely-stand-requires : tie.Need-surely-stand-requires
+surely-stand-requires c κs = search needs
 
 returns-7 : tie.Need-returns-7
 returns-7 c = λ e.
@@ -79,7 +78,7 @@ returns-7 c = λ e.
       class-is = f .if4 .left;
       follows = sym (m .before .may-follow .ensures) ∙ not-false (m .before .may-follow .result) (m .if5 .left);
       group = sym (g .before .is-group .ensures) ∙ not-false (g .before .is-group .result) (g .if6 .left);
-      timed = sym e ∙ stands (now (s .args .s)) (s .args .at) (c .times-stand .result) (h .if2 .left) (c .times-stand .ensures);
+      timed = sym (c .surely-stand .ensures e);
     }
 
 pub is-like-spec : {M : Type 1} → statement M
@@ -102,5 +101,5 @@ is-like-spec =
     shared-slice-read-is-group
     is-group-requires
     returns-6
-    times-stand-requires
+    surely-stand-requires
     returns-7)

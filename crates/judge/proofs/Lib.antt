@@ -8,3 +8,6 @@ pub mod CountLaws
 pub mod Covering
 pub mod PaceLaws
 pub mod TimesLaws
+pub mod PendingLaws
+pub mod SweepLaws
+pub mod EaseLaws

@@ -13,20 +13,16 @@ use Rattle.mphr.specs.Table.{declared, total}
 use Rattle.judge.specs.declared.pointers.Pointers.{Pointers}
 use Rattle.judge.specs.declared.pace.Pace.{Pace}
 use Rattle.judge.specs.Table.{site, classAt, sizeAt, Sound, Unknown, Misplaced, Surplus}
-use Rattle.judge.specs.Step.{Six, Ranked, Settling, ClearIs, EntireIs}
+use Rattle.judge.specs.Step.{Six, Ranked, EntireIs}
 use Rattle.judge.specs.Turning.{Ready, Gone}
 use Rattle.judge.specs.Pace.{noPace, Paced, LikeIs, Fewer}
 use Rattle.judge.proofs.WayLaws.{leads-le}
 use Rattle.judge.proofs.RankLaws.{clash, rank-12, class-most, known}
-use Rattle.judge.proofs.ScanLaws.{quiet-narrow, follow-still}
+use Rattle.judge.proofs.ScanLaws.{clear-still}
 use Rattle.judge.proofs.TurnLaws.{go-on, settling}
 
 pub no-pace : {a : List ℕ} {c due d : ℕ} → 20 ≤ d → Paced a c due d noPace
 no-pace h = record { small = zero-le; due-after = zero-le; come = zero-le; left = h; not-ipr = λ l. absurd (omega arith); least = λ l. absurd (omega arith) }
-
--- nothing is due: no pointer says anything of the record
-pub clear-still : {a : List ℕ} {w : Pointers} {i to d : ℕ} → Settling a w i to d → to ≤ w .due → ClearIs a w i to w
-clear-still k h = record { inside = quiet-narrow (omega arith) (omega arith) (k .kept .quiet); other = quiet-narrow (le-refl _) (omega (arith, k .least)) (k .kept .quiet); follows = follow-still k }
 
 module _ {a ts : List ℕ} {d n i p : ℕ} {tl : List ℕ} {w : Pointers} {q : Pace} (y : Ready a d (site n i p tl) ts w) (k : Paced a p (w .due) d q) (l : LikeIs a q p i) (f : Fewer ts tl p) where
   some : 0 < q .limit

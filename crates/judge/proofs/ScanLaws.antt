@@ -12,7 +12,7 @@ use lib.ListN.{length, getD}
 use Rattle.mphr.specs.Table.{declared}
 use Rattle.judge.specs.Table.{Site, site, first, classAt, sizeAt, aimAt, offsetAt, kindAt, oneMore, Sound, Leads, here, on, next, Target}
 use Rattle.judge.specs.declared.pointers.Pointers.{Pointers}
-use Rattle.judge.specs.Step.{Started, any, Points, FirstPointer, Quiet, Scan, Met, Beyond, Looking, Rising, Order, Kept, Search, Settling, Follows, JoinedIs}
+use Rattle.judge.specs.Step.{Started, any, Points, FirstPointer, Quiet, Scan, Met, Beyond, Looking, Rising, Order, Kept, Search, Settling, Follows, JoinedIs, Calm, ClearIs}
 use Rattle.judge.proofs.WayLaws.{leads-le, snoc, goes, linear, met, near, ends-by}
 
 -- the same pointer, for other bounds and any kind
@@ -97,6 +97,9 @@ scan-narrow l h s = record {
 
 pub quiet-narrow : {a : List ℕ} {e lo hi lo′ hi′ k : ℕ} → lo ≤ lo′ → hi′ ≤ hi → Quiet a e lo hi any → Quiet a e lo′ hi′ k
 quiet-narrow l u h q w = h q (bounded w (w .before) (omega (arith, w .above)) (omega (arith, w .below)))
+
+pub quiet-calm : {a : List ℕ} {e i hi : ℕ} → Quiet a e i hi any → Calm a e i hi
+quiet-calm h = record { inside = quiet-narrow (omega arith) (le-refl _) h; other = λ l. quiet-narrow (le-refl _) (omega arith) h }
 
 pub first-none : {a : List ℕ} {e lo hi k : ℕ} → Quiet a e lo hi k → FirstPointer a e lo hi k 0
 first-none h = record { none = λ _. h; some = λ n. absurd (n refl); lowest = λ q w. zero-le }
@@ -183,7 +186,7 @@ module _ {a : List ℕ} {n i p : ℕ} {t : List ℕ} (way : Leads a first (site 
       within = omega (arith, follows .end-is, kept .within);
       ends = λ q u. ⊎-elim (λ b. omega (arith, follows .end-is, kept .ends q b)) (λ e. absurd (o (sym (ap (classAt a) e) ∙ u .ipr))) (before-or-at u);
       cursor = rw (follows .end-is) (follows .cursor);
-      quiet = rw (follows .end-is) (follows .quiet);
+      calm = quiet-calm (rw (follows .end-is) (follows .quiet));
       order = λ r. rw (follows .end-is, follows .last-is) (kept .order (sym (follows .rising-is) ∙ r));
     }
 
@@ -233,7 +236,7 @@ module _ {a : List ℕ} {n i p : ℕ} {t : List ℕ} (way : Leads a first (site 
         within = omega (arith, j .end-is);
         ends = λ q b. omega (arith, j .end-is, b .before);
         cursor = rw (j .end-is, j .from-is) joined-cursor;
-        quiet = rw (j .end-is) (λ q b. ⊎-elim (λ c. follows .quiet q (bounded (ended kept c) (ended kept c .before) (c .above) (omega (arith, c .below, j .sooner)))) (λ e. omega (arith, it q e, b .below, j .soon)) (before-or-at b));
+        calm = quiet-calm (rw (j .end-is) (λ q b. ⊎-elim (λ c. follows .quiet q (bounded (ended kept c) (ended kept c .before) (c .above) (omega (arith, c .below, j .sooner)))) (λ e. omega (arith, it q e, b .below, j .soon)) (before-or-at b)));
         order = λ r. rw (j .end-is, j .last-is) (joined-order r);
       }
 
@@ -241,9 +244,15 @@ module _ {a : List ℕ} {n i p : ℕ} {t : List ℕ} (way : Leads a first (site 
 pub searching : {a : List ℕ} {w : Pointers} {i to d : ℕ} → Settling a w i to d → {lo hi : ℕ} → i ≤ lo → hi ≤ d → Search a (w .from) (w .end) (w .rising) lo hi
 searching k l h = record { cursor = scan-narrow l (omega (arith, k .d-is)) (k .kept .cursor); order = λ r. k .kept .order r .rising }
 
--- nothing is due: the pointers stay as they are
-pub follow-still : {a : List ℕ} {w : Pointers} {i to d : ℕ} → Settling a w i to d → Follows a w to w
-follow-still k = record { quiet = quiet-narrow (omega (arith, k .least)) (le-refl _) (k .kept .quiet); cursor = scan-narrow (omega (arith, k .least)) (le-refl _) (k .kept .cursor); end-is = refl; last-is = refl; rising-is = refl }
+-- nothing is due: no pointer tells against the record, and they stay as they are
+pub clear-still : {a : List ℕ} {w : Pointers} {i to d : ℕ} → Settling a w i to d → to ≤ w .due → ClearIs a w i to w
+clear-still k h =
+    let c = k .kept .calm in
+    record {
+      inside = quiet-narrow (le-refl _) h (c .inside);
+      other = c .other (omega (arith, k .least));
+      follows = record { quiet = quiet-narrow (omega (arith, k .least)) (le-refl _) (c .inside); cursor = scan-narrow (omega (arith, k .least)) (le-refl _) (k .kept .cursor); end-is = refl; last-is = refl; rising-is = refl };
+    }
 
 pub of-kind : {a : List ℕ} {e lo hi k k′ u : ℕ} → k ≡ k′ → FirstPointer a e lo hi k u → FirstPointer a e lo hi k′ u
 of-kind e f = rw e at f

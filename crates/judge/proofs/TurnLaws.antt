@@ -19,7 +19,7 @@ use Rattle.judge.specs.declared.pointers.Pointers.{Pointers}
 use Rattle.judge.specs.declared.arrival.Arrival.{Arrival}
 use Rattle.judge.proofs.WayLaws.{leads-le, facts, holds}
 use Rattle.judge.proofs.RankLaws.{class-most}
-use Rattle.judge.proofs.ScanLaws.{first-widened, ended, first-none, kept-other, kept-pointer}
+use Rattle.judge.proofs.ScanLaws.{first-widened, ended, first-none, kept-other, kept-pointer, quiet-calm}
 use Rattle.judge.proofs.JudgeLaws.{Plain, wait-head, sounds, refuse-6-head, refuse-head, refuse-13, refuse-14, plain, wait-body, refuse-6, refuse-12, turn-next, Few, refuse-15, refuse-16, wait-end}
 
 -- a refusal that is given, as the answer
@@ -97,6 +97,7 @@ module _ {a ts : List ℕ} {d n i p : ℕ} {tl : List ℕ} {w : Pointers} (y : R
             further = omega (arith, z-is, sound .least);
             eight = class-most (classAt a i) known .1;
             fewer = holds (decLt (getD tl (classAt a i) 0) (total a (classAt a i))) (λ m. f .fewer (record { known = known; over = omega arith }));
+            to-is = ap (λ (k : ℕ). i + k) z-is;
             turn = rw z-is on-it;
             kept = rw z-is (kept-on (ℕ-discrete (classAt a i) 3));
           }
@@ -108,7 +109,7 @@ kept-first {a} {d} l = record {
   within = le-refl _;
   ends = λ q b. b .before;
   cursor = record { count = 1; prev = 1; tally = first .tally; way = here; goal = record { count = 1; prev = 1; tally = first .tally; way = here; come = l }; ahead = here; rest = λ q b. b .way };
-  quiet = λ q b. none b;
+  calm = quiet-calm (λ q b. none b);
   order = λ _. record { rising = record { rise = λ p q b c h. absurd (none b) }; top = λ q b. absurd (none b) };
 }
   where

@@ -3,3 +3,4 @@ pub mod Step
 pub mod Turning
 pub mod Extent
 pub mod Pace
+pub mod Pending

@@ -105,6 +105,11 @@ pub record FirstPointer (a : List ℕ) (e lo hi k r : ℕ) : Type 0 where
 abbrev pub Quiet : List ℕ → ℕ → ℕ → ℕ → ℕ → Type 0
 Quiet a e lo hi k = (q : Site) → Points a e lo hi k q → ⊥
 
+-- no pointer before byte e tells against the record at byte i, or points past it, but before hi: those before hi are at i, and of its kind
+pub record Calm (a : List ℕ) (e i hi : ℕ) : Type 0 where
+  pub inside : Quiet a e (i + 1) hi any
+  pub other : i < hi → Quiet a e i (i + 1) (kindAt a i)
+
 -- the scan stands at q: the pointers that are looked for are from there on
 pub record Scan (a : List ℕ) (e lo hi k q : ℕ) : Type 0 where
   pub count : ℕ
@@ -153,13 +158,14 @@ pub record Order (a : List ℕ) (e last : ℕ) : Type 0 where
   pub rising : Rising a e
   pub top : {lo hi : ℕ} (q : Site) → Points a e lo hi any q → offsetAt a (q .at) ≤ last
 
--- what is known, where a record starts at byte i, of the pointers before it: all of them start before `end`; none points at i or further on, but
--- before `due`; those that do are from `from` on; and where `rising` is true their targets never descend, and none is past `last`
+-- what is known, where a record starts at byte i, of the pointers before it: all of them start before `end`; of those that point at i or further
+-- on, but before `due`, none tells against the record at i or points past it; those that point at i or further on are from `from` on; and where
+-- `rising` is true their targets never descend, and none is past `last`
 pub record Kept (a : List ℕ) (i : ℕ) (w : Pointers) : Type 0 where
   pub within : w .end ≤ i
   pub ends : {lo hi k : ℕ} (q : Site) → Points a i lo hi k q → q .at < w .end
   pub cursor : Scan a (w .end) i (declared a) any (w .from)
-  pub quiet : Quiet a (w .end) i (w .due) any
+  pub calm : Calm a (w .end) i (w .due)
   pub order : w .rising ≡ true → Order a (w .end) (w .last)
 
 -- what a search asks: it is for targets from lo on, none of which is past D

@@ -10,7 +10,7 @@ use Rattle.record.specs.Header.{isClass}
 use Rattle.text.specs.Field.{isNumber}
 use Rattle.mphr.specs.Table.{declared, total, Fine}
 use Rattle.mphr.specs.Table as M
-use Rattle.judge.specs.Table.{Site, site, first, oneMore, Sound, Leads, Fault, main, at, too-long, shown, Judged}
+use Rattle.judge.specs.Table.{Site, site, first, oneMore, sizeAt, Sound, Leads, Fault, main, at, too-long, shown, Judged}
 use Rattle.judge.specs.Step.{Kept}
 use Rattle.judge.specs.declared.pointers.Pointers.{Pointers}
 use Rattle.judge.specs.declared.arrival.Arrival.{Arrival}
@@ -57,6 +57,7 @@ pub record Ready (a : List ℕ) (d : ℕ) (x : Site) (ts : List ℕ) (w : Pointe
 -- one turn on: the site after x
 pub record Gone (a : List ℕ) (x : Site) (to c : ℕ) (w : Pointers) : Type 0 where
   pub further : x .at + 20 ≤ to
+  pub to-is : to ≡ x .at + sizeAt a (x .at)
   pub eight : c ≤ 8
   pub fewer : getD (x .tally) c 0 < total a c
   pub turn : Turn a (site (x .count + 1) to c (oneMore (x .tally) c))
@@ -79,6 +80,15 @@ pub record CountAt (a : List ℕ) (i w : ℕ) : Type 0 where
   pub come : i + w ≤ length a
   pub number : isNumber false a i w ≡ true
   pub small : w ≤ 17
+
+-- what the walk asks: D and the totals are at hand, and not 1 to 19 bytes are left after the main header
+pub record Walking (a ts : List ℕ) (d : ℕ) : Type 0 where
+  pub begun : Begun a
+  pub d-is : d ≡ declared a
+  pub least : 3307 ≤ d
+  pub small : d ≤ 2147483647
+  pub not-part : 3307 < d → 3327 ≤ d
+  pub totals : Totals a ts
 
 -- what its end asks: each byte of D has come
 pub record Over (a : List ℕ) (d : ℕ) (x : Site) (ts : List ℕ) : Type 0 where

@@ -6,6 +6,8 @@ use crate::header::word;
 use crate::pace::no_pace;
 use crate::pace::pace_of;
 use crate::pace::passes;
+use crate::pending::ease;
+use crate::pending::no_hold;
 use crate::pointers::Body;
 use crate::pointers::Pointers;
 use crate::pointers::Settled;
@@ -25,7 +27,7 @@ ghost use Rattle.record.specs.Follow.{Ruled};
 ghost use Rattle.mphr.specs.Table.{declared, total, Fine};
 ghost use Rattle.judge.specs.Table.{site, Judged};
 ghost use Rattle.judge.specs.Extent.{ExtentIs};
-ghost use Rattle.judge.specs.Turning.{Totals, Ready, TurnedIs, refusedAt, Begun, CountAt, Over, FewerIs};
+ghost use Rattle.judge.specs.Turning.{Totals, Ready, TurnedIs, refusedAt, Begun, Walking, CountAt, Over, FewerIs};
 
 pub enum Arrival {
     Waiting { count: usize, end: usize },
@@ -160,17 +162,11 @@ fn ended(s: &[u8], totals: &[usize], tally: &[usize], d: usize, count: usize, pr
     Arrival::Waiting { count, end: d }
 }
 
-// The walk over the records after the main header.
-fn walk(s: &[u8]) -> Arrival
-    requires { ⌜ Begun (now s) ⌝ }
+// The walk over the records after the main header, with a room for the pointers that are still to come.
+fn walk_on(s: &[u8], totals: &[usize], held: &mut [[u32; 3]], d: usize) -> Arrival
+    requires { ⌜ Walking (now s) (now totals) d ⌝ }
     ensures { λ r. ⌜ Judged (now (s .entry)) r ⌝ }
 {
-    let d = size_of(s);
-    if is_part(3307, d) {
-        return refusal(6, 3307);
-    }
-    let mut totals = [0usize; 9];
-    put_totals(s, &mut totals);
     let mut tally = [0usize, 1, 0, 0, 0, 0, 0, 0, 0];
     let mut count: usize = 1;
     let mut at: usize = 3307;
@@ -178,17 +174,20 @@ fn walk(s: &[u8]) -> Arrival
     let mut w = no_pointers(d);
     let mut near: usize = 0;
     let mut pace = no_pace();
+    let mut hold = no_hold(d);
     // Once: a const array is copied where it is named.
     let follow = record::follow::FOLLOW;
     while at < d {
         near = look_ahead(s, at, near);
-        if passes(s, &follow, &totals, &tally, pace, at, prev) {
+        if passes(s, &follow, totals, &tally, pace, at, prev) {
             tally[prev as usize] += 1;
             count += 1;
             at += pace.size;
             continue;
         }
-        match turn(s, &follow, &totals, &tally, d, count, at, prev, w) {
+        hold = ease(s, held, hold, w, at, d);
+        w.due = hold.due;
+        match turn(s, &follow, totals, &tally, d, count, at, prev, w) {
             Turned::Stop(answer) => {
                 return answer;
             }
@@ -206,7 +205,26 @@ fn walk(s: &[u8]) -> Arrival
             }
         }
     }
-    ended(s, &totals, &tally, d, count, prev)
+    ended(s, totals, &tally, d, count, prev)
+}
+
+// The room: a single pointer is in order, and needs none.
+fn walk(s: &[u8]) -> Arrival
+    requires { ⌜ Begun (now s) ⌝ }
+    ensures { λ r. ⌜ Judged (now (s .entry)) r ⌝ }
+{
+    let d = size_of(s);
+    if is_part(3307, d) {
+        return refusal(6, 3307);
+    }
+    let mut totals = [0usize; 9];
+    put_totals(s, &mut totals);
+    if totals[3] < 2 {
+        let mut held = [[0u32; 3]; 1];
+        return walk_on(s, &totals, &mut held, d);
+    }
+    let mut held = [[0u32; 3]; 256];
+    walk_on(s, &totals, &mut held, d)
 }
 
 // What is to be said of an arrival: a refusal of 1 to 16, or waiting, with the whole records and the end of the last.

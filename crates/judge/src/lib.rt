@@ -4,5 +4,6 @@ pub use calendar::Refusal;
 pub mod arrival;
 mod header;
 mod pace;
+mod pending;
 mod pointers;
 mod times;

@@ -22,7 +22,7 @@ pub(crate) fn no_pace() -> Pace
     Pace { size: 0, limit: 0 }
 }
 
-fn lesser(a: usize, b: usize) -> usize
+pub(crate) fn lesser(a: usize, b: usize) -> usize
     ensures { λ r. ⌜ (r ≤ a) × (r ≤ b) ⌝ }
 {
     if a < b { a } else { b }

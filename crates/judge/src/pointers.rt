@@ -39,7 +39,7 @@ pub enum Body {
 }
 
 // More than each number of three bytes.
-const ANY: usize = 16_777_216;
+pub(crate) const ANY: usize = 16_777_216;
 
 // What is known before the first of them.
 pub(crate) fn no_pointers(d: usize) -> Pointers
@@ -64,7 +64,7 @@ pub enum Look {
 
 // Whether the record at q is a pointer whose target is from lo up to hi and of another kind than `kind`. Where the targets never
 // descend, one that is past hi ends the search.
-fn look_at(s: &[u8], q: usize, lo: usize, hi: usize, kind: usize, rising: bool) -> Look
+pub(crate) fn look_at(s: &[u8], q: usize, lo: usize, hi: usize, kind: usize, rising: bool) -> Look
     requires { ⌜ Looking (now s) q ⌝ }
     ensures { λ r. ⌜ LookIs (now (s .entry)) q lo hi kind rising r ⌝ }
 {

@@ -2,15 +2,13 @@
 use native.Mathlib.Nat.{le-refl}
 use native.Mathlib.Omega.{arith}
 use mathlib.Core.Path.{_≡_, refl}
-use Rattle.judge.proofs.ScanLaws.{quiet-narrow, searching, follow-still, of-kind}
+use Rattle.judge.proofs.ScanLaws.{searching, clear-still, of-kind}
 use borrow.Author.Needs.{needs}
 use Rattle.judge.proofs.pointers.settle.Statement.{statement}
 use Rattle.judge.proofs.pointers.settle.Tie as tie
 
 returns : tie.Need-returns
-returns c =
-    let k = c .before .before .before .pre in
-    record { inside = quiet-narrow (omega arith) (omega arith) (k .kept .quiet); other = quiet-narrow (le-refl _) (omega (arith, k .least)) (k .kept .quiet); follows = follow-still k }
+returns c = clear-still (c .before .before .before .pre) (c .if1 .taken)
 
 add-pointer : tie.Need-add-pointer
 add-pointer c = search needs

@@ -25,97 +25,8 @@ use Rattle.judge.specs.declared.arrival.Arrival.{Arrival}
 use Rattle.judge.specs.declared.arrival.Arrival.the-variants.{Waiting, Refused}
 use Rattle.finish.specs.declared.Finished.{Finished}
 use Rattle.finish.specs.declared.Finished.the-variants as F
-use Rattle.judge.proofs.RankLaws.{class-most}
-use Rattle.judge.proofs.WayLaws.{leads-le, counts, linear, ends-by, facts}
-
--- LOCALITY: what is wrong at a site, and every fault, is the same where the first bytes are, as many as show it
-module _ {a b : List ℕ} {k : ℕ} (same : Same a b k) where
-  be-on : (i n : ℕ) → i + n ≤ k → beAt a i n ≡ beAt b i n
-  be-on = M.be-same a b k same
-
-  declared-on : 3307 ≤ k → declared a ≡ declared b
-  declared-on h = M.declared-same a b k same (omega arith)
-
-  total-on : 3307 ≤ k → (j : ℕ) → j ≤ 8 → total a j ≡ total b j
-  total-on h = M.total-same a b k same (omega arith)
-
-  module _ (m : 3307 ≤ k) where
-    sound-on : {i : ℕ} → i + 20 ≤ k → Sound a i → Sound b i
-    sound-on {i} h s =
-        let ec : classAt a i ≡ classAt b i = same .byte i (omega arith) in
-        let ez : sizeAt a i ≡ sizeAt b i = be-on (i + 4) 4 (omega arith) in
-        record {
-          room = omega (arith, s .room, declared-on m);
-          least = omega (arith, s .least);
-          most = omega (arith, s .most, declared-on m);
-          ipr = λ o. sym ez ∙ s .ipr (ec ∙ o);
-        }
-
-    leads-on : {x y : Site} → Leads a x y → y .at ≤ k → Leads b x y
-    leads-on here h = here
-    leads-on {x} (on s l) h =
-        let r : x .at + 20 ≤ k = omega (arith, leads-le l, s .least) in
-        on (sound-on r s) (rw (same .byte (x .at) (omega arith), be-on (x .at + 4) 4 (omega arith)) at (leads-on l h))
-
-    target-on : {i : ℕ} → i + 27 ≤ k → Target a i → Target b i
-    target-on {i} h t =
-        let ec : aimClass a i ≡ aimClass b i = same .byte (i + 20) (omega arith) in
-        let eo : offsetAt a i ≡ offsetAt b i = be-on (i + 23) 4 (omega arith) in
-        record {
-          four = omega (arith, t .four);
-          eight = omega (arith, t .eight);
-          past = omega (arith, t .past);
-          within = omega (arith, t .within, declared-on m);
-        }
-
-    pointer-on : {q : Site} → q .at + 27 ≤ k → Pointer a q → Pointer b q
-    pointer-on {q} h p = record {
-      way = leads-on (p .way) (omega arith);
-      sound = sound-on (omega arith) (p .sound);
-      ipr = sym (same .byte (q .at) (omega arith)) ∙ p .ipr;
-      target = target-on h (p .target);
-    }
-
-module _ {a b : List ℕ} {k : ℕ} (same : Same a b k) (m : 3307 ≤ k) where
-  wrong-on : {x : Site} → Leads a first x → (w : Wrong a x) → rowAt w .shown ≤ k → (v : Wrong b x) × (rowAt w ≡ rowAt v)
-  wrong-on y (part-left u v) h = (part-left (omega (arith, declared-on same m)) (omega (arith, declared-on same m)), refl)
-  wrong-on {x} y (unknown r c) h =
-      (unknown (omega (arith, declared-on same m)) (rw (same .byte (x .at) (omega arith), same .byte (x .at + 1) (omega arith)) at c), refl)
-  wrong-on {x} y (misplaced r c) h =
-      let e = same .byte (x .at) (omega arith) in
-      (misplaced (omega (arith, declared-on same m)) (record { before = c .before; known = rw e at (c .known); against = rw e at (c .against) }), refl)
-  wrong-on y (bad-size r c) h = (bad-size (omega (arith, declared-on same m)) (λ s. c (sound-on (same-back same) m h s)), refl)
-  wrong-on {x} y (bad-times r c) h =
-      (bad-times (omega (arith, declared-on same m)) (sym (timed-same a b (x .at) (λ j l. same .byte j (omega arith))) ∙ c), refl)
-  wrong-on {x} y (surplus r c) h =
-      let e = same .byte (x .at) (omega arith) in
-      let t = total-on same m (classAt a (x .at)) (class-most (classAt a (x .at)) (c .known) .1) in
-      (surplus (omega (arith, declared-on same m)) (record { known = rw e at (c .known); over = rw e at (rw t at (c .over)) }), refl)
-  wrong-on {x} y (bad-target s o c) h =
-      (bad-target (sound-on same m (omega arith) s) (sym (same .byte (x .at) (omega arith)) ∙ o) (λ t. c (target-on (same-back same) m h t)), refl)
-  wrong-on {x} y (points-inside q p r l u v) h =
-      let i : q .at + 27 ≤ k = omega (arith, ends-by (p .way) y l, p .sound .ipr (p .ipr)) in
-      let e : offsetAt a (q .at) ≡ offsetAt b (q .at) = be-on same (q .at + 23) 4 (omega arith) in
-      let z : sizeAt a (x .at) ≡ sizeAt b (x .at) = be-on same (x .at + 4) 4 (omega arith) in
-      (points-inside q (pointer-on same m i p) (omega (arith, declared-on same m)) l (omega arith) (omega arith), refl)
-  wrong-on {x} y (points-at-other q p r l t c) h =
-      let i : q .at + 27 ≤ k = omega (arith, p .target .past) in
-      let e : offsetAt a (q .at) ≡ offsetAt b (q .at) = be-on same (q .at + 23) 4 (omega arith) in
-      let f : aimAt a (q .at) ≡ aimAt b (q .at) = be-on same (q .at + 20) 3 (omega arith) in
-      let g : kindAt a (x .at) ≡ kindAt b (x .at) = be-on same (x .at) 3 (omega arith) in
-      (points-at-other q (pointer-on same m i p) (omega (arith, declared-on same m)) l (omega arith) (λ d. c (omega arith)), refl)
-  wrong-on y (too-few e c l u f) h = (too-few (omega (arith, declared-on same m)) c l u (omega (arith, total-on same m c u)), refl)
-
--- THE LAW
-pub local : {a b : List ℕ} {k : ℕ} → Same a b k → (f : Fault a) → shown f ≤ k → (g : Fault b) × (row f ≡ row g)
-local same (main g) h = let f = M.local same g h in (main (f .0), f .1)
-local {k = k} same (at d x l w) h =
-    let m : 3307 ≤ k = omega (arith, leads-le l, facts w .from) in
-    let v = wrong-on same m l w h in
-    (at (fine-on same m d) x (leads-on same m l (omega (arith, facts w .from))) (v .0), v .1)
-local {a} {k = k} same (too-long d) h =
-    let m : 3307 ≤ k = omega (arith, sized d) in
-    (too-long (fine-on same m d), ap (λ (d : ℕ). fault 16 d (d + 1)) (declared-on same m))
+use Rattle.judge.proofs.WayLaws.{leads-le, counts, linear}
+use Rattle.judge.proofs.Local.{be-on, sound-on, leads-on, local, stay, OpenAt, unique-open}
 
 shown-is : {f g : Row} → f ≡ g → f .shown ≡ g .shown
 shown-is e = ap (λ (k : Row). k .shown) e
@@ -179,11 +90,6 @@ module _ (a t : List ℕ) where
           let v = local same u l in
           rw (← w, v .1) (g .best (v .0) (omega (arith, shown-is (v .1), longer)))
 
--- what leads no further than the record at x is x
-stay : {a : List ℕ} {x y : Site} → Leads a x y → (Sound a (x .at) → y .at < x .at + sizeAt a (x .at)) → Leads a y x
-stay here h = here
-stay (on s l) h = absurd (omega (arith, h s, leads-le l))
-
 -- the whole records of an arrival, c that end at e, are the first of the whole records of a longer one, c′ that end at e′
 pub record Grows (a t : List ℕ) (c e c′ e′ : ℕ) : Type 0 where
   pub count : c ≤ c′
@@ -198,9 +104,6 @@ pub record Stays (a t : List ℕ) (x : Site) (e′ : ℕ) : Type 0 where
   pub sound : Sound (a ++ t) (x .at)
   pub size : sizeAt (a ++ t) (x .at) ≡ sizeAt a (x .at)
   pub ended : x .at + sizeAt (a ++ t) (x .at) ≤ e′
-
-abbrev OpenAt : List ℕ → ℕ → ℕ → Type 0
-OpenAt a c e = ((length a < 3307) × (c ≡ 0) × (e ≡ 0)) ⊎ ((3307 ≤ length a) × Whole a c e)
 
 module _ (a t : List ℕ) where
   ahead :
@@ -246,21 +149,6 @@ unique-given g h =
     let e : shown (g .fault) ≡ shown (h .fault) = omega (arith, u .sooner, v .sooner) in
     let f : number (g .fault) ≡ number (h .fault) = omega (arith, u .lower e, v .lower (sym e)) in
     (omega (arith, g .numbered, h .numbered), omega (arith, g .placed, h .placed, u .nearer e f, v .nearer (sym e) (sym f)))
-
-same-count : {a : List ℕ} {x y : Site} → Leads a x y → Leads a y x → x .count ≡ y .count
-same-count l m = omega (arith, counts l, counts m)
-
-pub unique-open : {a : List ℕ} {c e c′ e′ : ℕ} → Open a c e → Open a c′ e′ → (c ≡ c′) × (e ≡ e′)
-unique-open {a} {c} {e} {c′} {e′} o o′ = go (o .whole) (o′ .whole)
-  where
-    go : OpenAt a c e → OpenAt a c′ e′ → (c ≡ c′) × (e ≡ e′)
-    go (inl z) (inl z′) = omega arith
-    go (inl z) (inr w) = absurd (omega arith)
-    go (inr w) (inl z) = absurd (omega arith)
-    go (inr (h, w)) (inr (h′, w′)) =
-        let l = ⊎-elim (λ l. l) (λ l. stay l (λ s. omega (arith, w′ .last s, w .come))) (linear (w .way) (w′ .way)) in
-        let m = ⊎-elim (λ l. l) (λ l. stay l (λ s. omega (arith, w .last s, w′ .come))) (linear (w′ .way) (w .way)) in
-        (same-count l m, omega (arith, leads-le l, leads-le m))
 
 pub unique-arrival : (a : List ℕ) (r s : Arrival) → Judged a r → Judged a s → r ≡ s
 unique-arrival a (Waiting c e) (Waiting c′ e′) h k = let u = unique-open h k in cc

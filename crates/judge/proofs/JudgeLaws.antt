@@ -21,7 +21,7 @@ use Rattle.judge.proofs.WayLaws.{leads-le, snoc, goes, linear, ends-by,
 use Rattle.judge.proofs.RankLaws.{clash, no-class}
 
 -- ---- the first record after the main header
-past-first : {a : List ℕ} → M.Clean a → 3307 ≤ length a → Past a first
+pub past-first : {a : List ℕ} → M.Clean a → 3307 ≤ length a → Past a first
 past-first c h (main g) _ = absurd (clean-whole h c g)
 past-first c h (at _ y l _) _ = l
 past-first c h (too-long _) _ = tt
@@ -31,7 +31,7 @@ unfolding isClass
 turn-first c h p = record { fine = clean-fine h c; way = here; come = h; inside = sized (clean-fine h c) .0; not-part = p; counted = omega arith; known = refl; nine = refl; past = past-first c h }
 
 -- ---- what a fault at x or further on can be, where x has a header
-data View (a : List ℕ) (x : Site) : Fault a → Type 0 where
+pub data View (a : List ℕ) (x : Site) : Fault a → Type 0 where
   own : {f : Fine a} {l : Leads a first x} (w : Wrong a x) → View a x (at f x l w)
   six : {f : Fine a} {l : Leads a first (next a x)} → Sound a (x .at) → (m : x .at + sizeAt a (x .at) < declared a) (p : declared a < x .at + sizeAt a (x .at) + 20) → View a x (at f (next a x) l (part-left m p))
   later : {g : Fault a} → Sound a (x .at) → x .at + sizeAt a (x .at) ≤ shown g → (shown g ≡ x .at + sizeAt a (x .at) → number g ≡ 15) → View a x g
@@ -52,7 +52,7 @@ view-next f s l (points-inside q p r b u v) = far f s l (points-inside q p r b u
 view-next f s l (points-at-other q p r b e c) = far f s l (points-at-other q p r b e c) (omega arith)
 view-next {a} {x} f s l (too-few e c i u v) = later {g = at f (next a x) l (too-few e c i u v)} s (omega arith) (λ _. refl)
 
-view : {a : List ℕ} {x : Site} (g : Fault a) → Onward x g → View a x g
+pub view : {a : List ℕ} {x : Site} (g : Fault a) → Onward x g → View a x g
 view (main g) w = absurd w
 view (at f y l w) here = own w
 view (at f y l w) (on s here) = view-next f s l w
@@ -60,11 +60,11 @@ view (at f y l w) (on s (on t m)) = far f s l w (omega (arith, leads-le m, t .le
 view (too-long f) _ = end
 
 -- where a fault is, by its number
-record Shows {a : List ℕ} (g : Fault a) : Type 0 where
-  on-six : number g ≡ 6 → place g ≡ shown g
-  near : 7 ≤ number g → number g ≤ 11 → place g + 20 ≡ shown g
+pub record Shows {a : List ℕ} (g : Fault a) : Type 0 where
+  pub on-six : number g ≡ 6 → place g ≡ shown g
+  pub near : 7 ≤ number g → number g ≤ 11 → place g + 20 ≡ shown g
 
-shows : {a : List ℕ} (g : Fault a) → Shows g
+pub shows : {a : List ℕ} (g : Fault a) → Shows g
 shows (main (M.bad-header e)) = omega arith
 shows (main (M.bad-line k h (M.bad-frame e))) = omega arith
 shows (main (M.bad-line k h (M.bad-value e))) = omega arith
@@ -75,7 +75,7 @@ shows (at f x l w) = let g = facts w in record { on-six = g .on-six; near = g .n
 shows (too-long f) = omega arith
 
 -- 6 at the first record
-pub refuse-6-first : {a : List ℕ} → M.Clean a → 3307 ≤ length a → 3307 < declared a → declared a < 3327 → Given a 6 3307
+unfoldable pub refuse-6-first : {a : List ℕ} → M.Clean a → 3307 ≤ length a → 3307 < declared a → declared a < 3327 → Given a 6 3307
 refuse-6-first {a} c h m p = record {
   fault = at (clean-fine h c) first here (part-left m p);
   numbered = refl;
@@ -127,14 +127,14 @@ only f r (points-at-other q p _ b e c) = absurd (f .no-other q (points p b (omeg
 only f r (too-few e c l u v) = absurd (omega arith)
 
 -- a fault that goes before each that is at x or further on
-abbrev Beats : {a : List ℕ} → Row → Fault a → Type 0
+abbrev pub Beats : {a : List ℕ} → Row → Fault a → Type 0
 Beats f g = (f .shown ≤ shown g) × (shown g ≡ f .shown → (f .number ≤ number g) × (number g ≡ f .number → f .place ≤ place g))
 
 module _ {a : List ℕ} {n i p : ℕ} {tl : List ℕ} (t : Turn a (site n i p tl)) (r : i + 20 ≤ declared a) where
-  abbrev x : Site
+  abbrev pub x : Site
   x = site n i p tl
 
-  give : {m q : ℕ} (f : Fault a) → number f ≡ m → place f ≡ q → shown f ≤ length a → ((g : Fault a) → View a x g → Beats (row f) g) → Given a m q
+  unfoldable pub give : {m q : ℕ} (f : Fault a) → number f ≡ m → place f ≡ q → shown f ≤ length a → ((g : Fault a) → View a x g → Beats (row f) g) → Given a m q
   give f en ep s b = record {
     fault = f;
     numbered = en;
@@ -145,13 +145,13 @@ module _ {a : List ℕ} {n i p : ℕ} {tl : List ℕ} (t : Turn a (site n i p tl
         record { sooner = w .0; lower = λ e. w .1 (sym e) .0; nearer = λ e d. w .1 (sym e) .1 (sym d) };
   }
 
-  soonest : {g : Fault a} → View a x g → i + 20 ≤ shown g
+  pub soonest : {g : Fault a} → View a x g → i + 20 ≤ shown g
   soonest (own w) = facts w .head r
   soonest (six s m q) = omega (arith, s .least)
   soonest (later s l _) = omega (arith, s .least)
   soonest end = omega arith
 
-  begun : 3307 ≤ length a
+  pub begun : 3307 ≤ length a
   begun = omega (arith, leads-le (t .way), t .come)
 
   pub wait-head : length a < i + 20 → Open a n i
@@ -177,13 +177,13 @@ module _ {a : List ℕ} {n i p : ℕ} {tl : List ℕ} (t : Turn a (site n i p tl
     floor-own (points-at-other q w _ b e c) = omega (arith, k .high)
     floor-own (too-few e c l u w) = absurd (omega arith)
 
-    floor : {g : Fault a} → View a x g → shown g ≡ i + 20 → v ≤ number g
+    pub floor : {g : Fault a} → View a x g → shown g ≡ i + 20 → v ≤ number g
     floor (own w) f = floor-own w
     floor (six s m q) f = k .six (record { short = omega arith; other = λ o. omega (arith, s .ipr o); more = omega arith; part = omega arith })
     floor (later s l e) f = omega (arith, k .high, e (omega (arith, s .least)))
     floor end f = absurd (omega arith)
 
-    pub refuse-6-head : v ≡ 6 → i + 20 ≤ length a → Given a 6 (i + 20)
+    unfoldable pub refuse-6-head : v ≡ 6 → i + 20 ≤ length a → Given a 6 (i + 20)
     refuse-6-head e l =
         let z = k .is-six e in
         let s : Sound a i = record { room = r; least = omega (arith, z .short); most = omega (arith, z .short, z .more); ipr = λ o. absurd (z .other o) } in
@@ -191,7 +191,7 @@ module _ {a : List ℕ} {n i p : ℕ} {tl : List ℕ} (t : Turn a (site n i p tl
         (λ g w. (omega (arith, soonest w, z .short), λ d. (omega (arith, floor w (omega (arith, z .short))), λ m. omega (arith, shows g .on-six m))))
 
     -- what the rank is the number of
-    ranked : 6 < v → v < 12 → (w : Wrong a x) × (rowAt w .number ≡ v) × (rowAt w .place ≡ i) × (rowAt w .shown ≡ i + 20)
+    pub ranked : 6 < v → v < 12 → (w : Wrong a x) × (rowAt w .number ≡ v) × (rowAt w .place ≡ i) × (rowAt w .shown ≡ i + 20)
     ranked l u = go (decLe v 7) (decLe v 8) (decLe v 9) (decLe v 10)
       where
         go : Dec (v ≤ 7) → Dec (v ≤ 8) → Dec (v ≤ 9) → Dec (v ≤ 10) → (w : Wrong a x) × (rowAt w .number ≡ v) × (rowAt w .place ≡ i) × (rowAt w .shown ≡ i + 20)
@@ -201,14 +201,14 @@ module _ {a : List ℕ} {n i p : ℕ} {tl : List ℕ} (t : Turn a (site n i p tl
         go (no h) (no j) (no m) (yes q) = (bad-times r (k .is-ten (omega arith)), omega arith, refl, refl)
         go (no h) (no j) (no m) (no q) = (surplus r (k .is-eleven (omega arith)), omega arith, refl, refl)
 
-    pub refuse-head : 6 < v → v < 12 → i + 20 ≤ length a → Given a v i
+    unfoldable pub refuse-head : 6 < v → v < 12 → i + 20 ≤ length a → Given a v i
     refuse-head l u s =
         let f = ranked l u in
         give (at (t .fine) x (t .way) (f .0)) (f .1) (f .2) (omega (arith, f .3))
         (λ g w. (omega (arith, f .3, soonest w), λ d. (omega (arith, f .1, floor w (omega (arith, f .3))), λ m. omega (arith, f .2, f .3, shows g .near (omega (arith, f .1)) (omega (arith, f .1))))))
 
     -- a pointer that was looked for has no fault: a fault of its own would have been shown
-    pointer-of : {lo hi j : ℕ} {q : Site} → Points a i lo hi j q → Pointer a q
+    pub pointer-of : {lo hi j : ℕ} {q : Site} → Points a i lo hi j q → Pointer a q
     pointer-of {q = q} w = record { way = w .way; sound = w .sound; ipr = w .ipr; target = holds (target? a (q .at)) never }
       where
         whole : q .at + 27 ≤ i
@@ -230,13 +230,13 @@ module _ {a : List ℕ} {n i p : ℕ} {tl : List ℕ} (t : Turn a (site n i p tl
       own-13 (points-at-other q w _ b e c) f = omega arith
       own-13 (too-few e c l m w) f = absurd (omega arith)
 
-      at-13 : (g : Fault a) → View a x g → shown g ≡ i + 20 → (13 ≤ number g) × (number g ≡ 13 → u ≤ place g)
+      pub at-13 : (g : Fault a) → View a x g → shown g ≡ i + 20 → (13 ≤ number g) × (number g ≡ 13 → u ≤ place g)
       at-13 g (own w) f = own-13 w f
       at-13 g (six s m q) f = absurd (omega (arith, floor (view-next (t .fine) s (snoc (t .way) s) (part-left m q)) f))
       at-13 g (later s l e) f = let m = e (omega (arith, s .least)) in (omega arith, λ d. absurd (omega arith))
       at-13 g end f = absurd (omega arith)
 
-      pub refuse-13 : (u ≡ 0 → ⊥) → i + 20 ≤ length a → Given a 13 u
+      unfoldable pub refuse-13 : (u ≡ 0 → ⊥) → i + 20 ≤ length a → Given a 13 u
       refuse-13 h s =
           let w = in-it .some h in
           give (at (t .fine) x (t .way) (points-inside (w .0) (pointer-of (w .2)) r (w .2 .before) (omega (arith, w .2 .above)) (w .2 .below))) refl (w .1) s
@@ -255,13 +255,13 @@ module _ {a : List ℕ} {n i p : ℕ} {tl : List ℕ} (t : Turn a (site n i p tl
         own-14 (points-at-other q w _ b e c) f = omega (arith, at-it .lowest q (points w b (omega arith) (omega arith) (λ _. c)))
         own-14 (too-few e c l m w) f = absurd (omega arith)
 
-        at-14 : (g : Fault a) → View a x g → shown g ≡ i + 20 → (14 ≤ number g) × (number g ≡ 14 → u′ ≤ place g)
+        pub at-14 : (g : Fault a) → View a x g → shown g ≡ i + 20 → (14 ≤ number g) × (number g ≡ 14 → u′ ≤ place g)
         at-14 g (own w) f = own-14 w f
         at-14 g (six s m q) f = absurd (omega (arith, floor (view-next (t .fine) s (snoc (t .way) s) (part-left m q)) f))
         at-14 g (later s l e) f = let m = e (omega (arith, s .least)) in (omega arith, λ d. absurd (omega arith))
         at-14 g end f = absurd (omega arith)
 
-        pub refuse-14 : (u′ ≡ 0 → ⊥) → kindAt a i < any → i + 20 ≤ length a → Given a 14 u′
+        unfoldable pub refuse-14 : (u′ ≡ 0 → ⊥) → kindAt a i < any → i + 20 ≤ length a → Given a 14 u′
         refuse-14 h small s =
             let w = at-it .some h in
             give (at (t .fine) x (t .way) (points-at-other (w .0) (pointer-of (w .2)) r (w .2 .before) (omega (arith, w .2 .above, w .2 .below)) (w .2 .unlike small))) refl (w .1) s
@@ -291,23 +291,23 @@ module _ {a : List ℕ} {n i p : ℕ} {tl : List ℕ} (t : Turn a (site n i p tl
       whole = inr (begun, record { prev = p; tally = tl; way = t .way; come = t .come; last = λ _. l });
     }
 
-    at-6 : i + sizeAt a i < declared a → (g : Fault a) → View a x g → Beats (fault 6 (i + sizeAt a i) (i + sizeAt a i)) g
+    pub at-6 : i + sizeAt a i < declared a → (g : Fault a) → View a x g → Beats (fault 6 (i + sizeAt a i) (i + sizeAt a i)) g
     at-6 l g (own w) = let z = only f r w in omega (arith, z .number-is, z .shown-is, f .sound .ipr (z .ipr))
     at-6 l g (six s m q) = omega arith
     at-6 l g (later s h e) = (h, λ d. (omega (arith, e d), λ b. absurd (omega (arith, e d))))
     at-6 l g end = omega arith
 
-    pub refuse-6 : i + sizeAt a i < declared a → declared a < i + sizeAt a i + 20 → i + sizeAt a i ≤ length a → Given a 6 (i + sizeAt a i)
+    unfoldable pub refuse-6 : i + sizeAt a i < declared a → declared a < i + sizeAt a i + 20 → i + sizeAt a i ≤ length a → Given a 6 (i + sizeAt a i)
     refuse-6 m q l = give (at (t .fine) (next a x) (snoc (t .way) (f .sound)) (part-left m q)) refl refl l (at-6 m)
 
     module _ (e : i + sizeAt a i < declared a → i + sizeAt a i + 20 ≤ declared a) where
-      at-12 : classAt a i ≡ 3 → (g : Fault a) → View a x g → Beats (fault 12 i (i + 27)) g
+      pub at-12 : classAt a i ≡ 3 → (g : Fault a) → View a x g → Beats (fault 12 i (i + 27)) g
       at-12 o g (own w) = let z = only f r w in omega (arith, z .number-is, z .place-is, z .shown-is)
       at-12 o g (six s m q) = absurd (omega (arith, e m))
       at-12 o g (later s h d) = let z = f .sound .ipr o in (omega arith, λ b. let m = d (omega arith) in (omega arith, λ c. absurd (omega arith)))
       at-12 o g end = omega (arith, f .sound .ipr o, f .sound .most)
 
-      pub refuse-12 : classAt a i ≡ 3 → (Target a i → ⊥) → i + 27 ≤ length a → Given a 12 i
+      unfoldable pub refuse-12 : classAt a i ≡ 3 → (Target a i → ⊥) → i + 27 ≤ length a → Given a 12 i
       refuse-12 o c l = give (at (t .fine) x (t .way) (bad-target (f .sound) o c)) refl refl l (at-12 o)
 
       -- all that is shown is further on

@@ -11,3 +11,4 @@ pub mod TimesLaws
 pub mod PendingLaws
 pub mod SweepLaws
 pub mod EaseLaws
+pub mod Local

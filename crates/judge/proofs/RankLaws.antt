@@ -12,15 +12,18 @@ use Rattle.record.specs.Header.{isClass, isGroup}
 use Rattle.record.specs.Follow.{mayFollow}
 use Rattle.record.specs.Times.{timedAt}
 use Rattle.mphr.specs.Table.{declared, total}
-use Rattle.judge.specs.Table.{classAt, sizeAt, Sound, Unknown, Misplaced, Surplus}
-use Rattle.judge.specs.Step.{Six, Ranked, Ranking, Sized, SizedIs, SixLeft, SixIn}
+use Rattle.meter.specs.Integer.{beAt}
+use Rattle.meter.proofs.IntegerLaws.{beAt-same}
+use Rattle.meter.specs.Time.{timeAt}
+use Rattle.judge.specs.Table.{classAt, kindAt, sizeAt, Sound, Unknown, Misplaced, Surplus}
+use Rattle.judge.specs.Step.{Six, Facing, Lowest, Ranked, RankIs, Excess, Sized, SizedIs, SixLeft, SixIn}
 
 -- a test that came out both ways
 pub clash : {P : Type 0} → false ≡ true → P
 clash e = let z : _≡_ {A = ℕ} 0 1 = cc in absurd (omega arith)
 
-module _ {a : List ℕ} {p i : ℕ} {t : List ℕ} where
-  pub rank-6 : (Six a i) → Ranked a p i t 6
+module _ {P6 P7 P8 P9 P10 P11 : Type 0} where
+  pub rank-6 : P6 → Lowest P6 P7 P8 P9 P10 P11 6
   rank-6 p6 = record {
     low = omega arith;
     high = omega arith;
@@ -38,7 +41,7 @@ module _ {a : List ℕ} {p i : ℕ} {t : List ℕ} where
     is-eleven = λ q. absurd (omega arith);
   }
 
-  pub rank-7 : ((Six a i) → ⊥) → (Unknown a i) → Ranked a p i t 7
+  pub rank-7 : (P6 → ⊥) → P7 → Lowest P6 P7 P8 P9 P10 P11 7
   rank-7 n6 p7 = record {
     low = omega arith;
     high = omega arith;
@@ -56,7 +59,7 @@ module _ {a : List ℕ} {p i : ℕ} {t : List ℕ} where
     is-eleven = λ q. absurd (omega arith);
   }
 
-  pub rank-8 : ((Six a i) → ⊥) → ((Unknown a i) → ⊥) → (Misplaced a p i) → Ranked a p i t 8
+  pub rank-8 : (P6 → ⊥) → (P7 → ⊥) → P8 → Lowest P6 P7 P8 P9 P10 P11 8
   rank-8 n6 n7 p8 = record {
     low = omega arith;
     high = omega arith;
@@ -74,7 +77,7 @@ module _ {a : List ℕ} {p i : ℕ} {t : List ℕ} where
     is-eleven = λ q. absurd (omega arith);
   }
 
-  pub rank-9 : ((Six a i) → ⊥) → ((Unknown a i) → ⊥) → ((Misplaced a p i) → ⊥) → (Sound a i → ⊥) → Ranked a p i t 9
+  pub rank-9 : (P6 → ⊥) → (P7 → ⊥) → (P8 → ⊥) → P9 → Lowest P6 P7 P8 P9 P10 P11 9
   rank-9 n6 n7 n8 p9 = record {
     low = omega arith;
     high = omega arith;
@@ -92,7 +95,7 @@ module _ {a : List ℕ} {p i : ℕ} {t : List ℕ} where
     is-eleven = λ q. absurd (omega arith);
   }
 
-  pub rank-10 : ((Six a i) → ⊥) → ((Unknown a i) → ⊥) → ((Misplaced a p i) → ⊥) → ((Sound a i → ⊥) → ⊥) → (timedAt a i ≡ false) → Ranked a p i t 10
+  pub rank-10 : (P6 → ⊥) → (P7 → ⊥) → (P8 → ⊥) → (P9 → ⊥) → P10 → Lowest P6 P7 P8 P9 P10 P11 10
   rank-10 n6 n7 n8 n9 p10 = record {
     low = omega arith;
     high = omega arith;
@@ -110,7 +113,7 @@ module _ {a : List ℕ} {p i : ℕ} {t : List ℕ} where
     is-eleven = λ q. absurd (omega arith);
   }
 
-  pub rank-11 : ((Six a i) → ⊥) → ((Unknown a i) → ⊥) → ((Misplaced a p i) → ⊥) → ((Sound a i → ⊥) → ⊥) → ((timedAt a i ≡ false) → ⊥) → (Surplus a t i) → Ranked a p i t 11
+  pub rank-11 : (P6 → ⊥) → (P7 → ⊥) → (P8 → ⊥) → (P9 → ⊥) → (P10 → ⊥) → P11 → Lowest P6 P7 P8 P9 P10 P11 11
   rank-11 n6 n7 n8 n9 n10 p11 = record {
     low = omega arith;
     high = omega arith;
@@ -128,7 +131,7 @@ module _ {a : List ℕ} {p i : ℕ} {t : List ℕ} where
     is-eleven = λ _. p11;
   }
 
-  pub rank-12 : ((Six a i) → ⊥) → ((Unknown a i) → ⊥) → ((Misplaced a p i) → ⊥) → ((Sound a i → ⊥) → ⊥) → ((timedAt a i ≡ false) → ⊥) → ((Surplus a t i) → ⊥) → Ranked a p i t 12
+  pub rank-12 : (P6 → ⊥) → (P7 → ⊥) → (P8 → ⊥) → (P9 → ⊥) → (P10 → ⊥) → (P11 → ⊥) → Lowest P6 P7 P8 P9 P10 P11 12
   rank-12 n6 n7 n8 n9 n10 n11 = record {
     low = omega arith;
     high = omega arith;
@@ -154,35 +157,90 @@ pub class-most : (c : ℕ) → isClass c ≡ true → (1 ≤ c) × (c ≤ 8)
 unfolding isClass
 class-most c e = let w = and-true (leb 1 c) (leb c 8) e in (leb-true 1 c (w .0), leb-true c 8 (w .1))
 
--- ---- the code's tests of a class, a size and what is left, as the table's of the record at byte i
-module _ {a ts t : List ℕ} {d i p c z : ℕ} (k : Ranking a ts t d i p) (c-is : c ≡ getD a i 0) (z-is : z ≡ sizeAt a i) where
-  sized-of : Sound a i → Sized c z (d - i)
-  sized-of s = record { least = omega (arith, s .least); most = omega (arith, s .most, k .d-is, k .room); ipr = λ o. z-is ∙ s .ipr (sym c-is ∙ o) }
+-- ---- the code's tests of a size and what is left, at the size that the header has
+module _ {c z z′ left : ℕ} {b : Bool} (z-is : z ≡ z′) where
+  pub six-in : SixIn c z left b → b ≡ true → SixLeft c z′ left
+  six-in r e = rw z-is at (r .good e)
 
-  pub sound-of : Sized c z (d - i) → Sound a i
-  sound-of s = record { room = omega (arith, k .room, k .d-is); least = omega (arith, s .least); most = omega (arith, s .most, k .d-is, k .room); ipr = λ o. sym z-is ∙ s .ipr (c-is ∙ o) }
+  pub not-six-in : SixIn c z left b → b ≡ false → SixLeft c z′ left → ⊥
+  not-six-in r e s = r .bad e (rw z-is s)
 
-  pub unsound : {b : Bool} → SizedIs c z (d - i) b → b ≡ false → Sound a i → ⊥
-  unsound r e s = r .bad e (sized-of s)
+  pub sized-in : SizedIs c z left b → b ≡ true → Sized c z′ left
+  sized-in r e = rw z-is at (r .good e)
 
-  pub six-of : {b : Bool} → SixIn c z (d - i) b → b ≡ true → Six a i
-  six-of r e = let s = r .good e in record { short = sym z-is ∙ s .short; other = λ o. s .other (c-is ∙ o); more = omega (arith, s .more, k .d-is, k .room); part = omega (arith, s .part, k .d-is, k .room) }
+  pub not-sized-in : SizedIs c z left b → b ≡ false → Sized c z′ left → ⊥
+  not-sized-in r e s = r .bad e (rw z-is s)
 
-  pub not-six : {b : Bool} → SixIn c z (d - i) b → b ≡ false → Six a i → ⊥
-  not-six r e s = r .bad e (record { short = z-is ∙ s .short; other = λ o. s .other (sym c-is ∙ o); more = omega (arith, s .more, k .d-is, k .room); part = omega (arith, s .part, k .d-is, k .room) })
+-- ---- a header by its own bytes and by the product's: those from byte o of h on are those from byte i of a on
+module _ {h a : List ℕ} {o i n : ℕ} (alike : Facing h o a i n) (twenty : 20 ≤ n) where
+  pub class-alike : classAt h o ≡ classAt a i
+  class-alike = let z : o + 0 ≡ o = omega arith in let y : i + 0 ≡ i = omega arith in rw (z, y) at (alike .byte 0 (omega arith))
 
-  module _ (b : isClass c ≡ true) where
-    own-total : getD ts c 0 ≡ total a (getD a i 0)
-    own-total = k .totals c (class-most c b .1) ∙ ap (total a) c-is
+  pub group-alike : getD h (o + 1) 0 ≡ getD a (i + 1) 0
+  group-alike = alike .byte 1 (omega arith)
 
-    own-tally : getD t c 0 ≡ getD t (getD a i 0) 0
-    own-tally = ap (λ (j : ℕ). getD t j 0) c-is
+  pub be-alike : (j m : ℕ) → j + m ≤ n → beAt h (o + j) m ≡ beAt a (i + j) m
+  be-alike j m l = beAt-same h a (o + j) (i + j) m (λ k u. let e = alike .byte (j + k) (omega arith) in let z : o + (j + k) ≡ o + j + k = omega arith in let y : i + (j + k) ≡ i + j + k = omega arith in rw (z, y) at e)
 
-    pub over : getD ts c 0 ≤ getD t c 0 → Surplus a t i
-    over h = record { known = sym (ap isClass c-is) ∙ b; over = omega (arith, own-total, own-tally) }
+  pub size-alike : sizeAt h o ≡ sizeAt a i
+  size-alike = be-alike 4 4 (omega arith)
 
-    pub not-over : getD t c 0 < getD ts c 0 → Surplus a t i → ⊥
-    not-over h s = omega (arith, own-total, own-tally, s .over)
+  pub kind-alike : kindAt h o ≡ kindAt a i
+  kind-alike = let z : o + 0 ≡ o = omega arith in let y : i + 0 ≡ i = omega arith in rw (z, y) at (be-alike 0 3 (omega arith))
+
+  pub timed-alike : timedAt h o ≡ timedAt a i
+  unfolding timedAt
+  timed-alike = rw (be-alike 8 6 (omega arith), be-alike 14 6 (omega arith))
+
+  module _ (ts t : List ℕ) (p left : ℕ) (room : i + 20 ≤ declared a) (left-is : left ≡ declared a - i) (before : isClass p ≡ true) (totals : (c : ℕ) → c ≤ 8 → getD ts c 0 ≡ total a c) where
+    pub sized-of : Sound a i → Sized (classAt h o) (sizeAt h o) left
+    sized-of s = let e = size-alike in let c = class-alike in record { least = omega (arith, s .least); most = omega (arith, s .most); ipr = λ k. e ∙ s .ipr (sym c ∙ k) }
+
+    pub sound-of : Sized (classAt h o) (sizeAt h o) left → Sound a i
+    sound-of s = let e = size-alike in let c = class-alike in record { room = room; least = omega (arith, s .least); most = omega (arith, s .most); ipr = λ k. sym e ∙ s .ipr (c ∙ k) }
+
+    six-of : SixLeft (classAt h o) (sizeAt h o) left → Six a i
+    six-of s = let e = size-alike in record { short = sym e ∙ s .short; other = λ k. s .other (class-alike ∙ k); more = omega (arith, s .more); part = omega (arith, s .part) }
+
+    six-back : Six a i → SixLeft (classAt h o) (sizeAt h o) left
+    six-back s = let e = size-alike in record { short = e ∙ s .short; other = λ k. s .other (sym class-alike ∙ k); more = omega (arith, s .more); part = omega (arith, s .part) }
+
+    unknown-of : Unknown h o → Unknown a i
+    unknown-of u = rw (class-alike, group-alike) at u
+
+    unknown-back : Unknown a i → Unknown h o
+    unknown-back u = rw (class-alike, group-alike) u
+
+    misplaced-of : Misplaced h p o → Misplaced a p i
+    misplaced-of m = record { before = m .before; known = rw class-alike at (m .known); against = rw class-alike at (m .against) }
+
+    misplaced-back : Misplaced a p i → Misplaced h p o
+    misplaced-back m = record { before = m .before; known = rw class-alike (m .known); against = rw class-alike (m .against) }
+
+    surplus-of : Excess ts t (classAt h o) → Surplus a t i
+    surplus-of x = let y = rw class-alike at x in record { known = y .known; over = omega (arith, y .over, totals (classAt a i) (class-most (classAt a i) (y .known) .1)) }
+
+    surplus-back : Surplus a t i → Excess ts t (classAt h o)
+    surplus-back y = rw class-alike (record { known = y .known; over = omega (arith, y .over, totals (classAt a i) (class-most (classAt a i) (y .known) .1)) })
+
+    -- THE RANK IS THE PRODUCT'S
+    pub ranked-of : {r : ℕ} → RankIs h o left p ts t r → Ranked a p i t r
+    ranked-of k = record {
+      low = k .low;
+      high = k .high;
+      six = λ q. k .six (six-back q);
+      seven = λ q. k .seven (unknown-back q);
+      eight = λ q. k .eight (misplaced-back q);
+      nine = λ q. k .nine (λ s. q (sound-of s));
+      ten = λ q. k .ten (timed-alike ∙ q);
+      eleven = λ q. k .eleven (surplus-back q);
+      is-six = λ e. six-of (k .is-six e);
+      is-seven = λ e. unknown-of (k .is-seven e);
+      is-eight = λ e. misplaced-of (k .is-eight e);
+      is-nine = λ e s. k .is-nine e (sized-of s);
+      is-ten = λ e. sym timed-alike ∙ k .is-ten e;
+      is-eleven = λ e. surplus-of (k .is-eleven e);
+    }
 
 both-known : {b d : Bool} → b ≡ true → d ≡ true → b && d ≡ true
 both-known e f = rw (e, f)

@@ -137,13 +137,13 @@ module _ {a ts tl : List ℕ} {d n p : ℕ} (o : Over a d (site n d p tl) ts) wh
 
 -- ---- the main header's answer, handed on
 -- a refusal of the main header is the product's: a fault of a fine header is shown before any record
-pub hand-on : {a : List ℕ} {n p : ℕ} → M.Given a n p → Given a n p
-hand-on {a} g = record { fault = main (g .fault); numbered = g .numbered; placed = g .placed; seen = g .seen; best = best }
-  where
-    best : (h : Fault a) → shown h ≤ length a → Before (row (main (g .fault))) (row h)
-    best (main h) s = g .best h s
-    best (at f y l w) s = let e = fine-early f (g .fault) in record { sooner = omega (arith, leads-le l, facts w .from); lower = λ d. absurd (omega (arith, leads-le l, facts w .from)); nearer = λ d. absurd (omega (arith, leads-le l, facts w .from)) }
-    best (too-long f) s = let e = fine-early f (g .fault) in let z = sized f in record { sooner = omega (arith, z); lower = λ d. absurd (omega (arith, z)); nearer = λ d. absurd (omega (arith, z)) }
+pub hand-best : {a : List ℕ} {n p : ℕ} (g : M.Given a n p) (h : Fault a) → shown h ≤ length a → Before (row (main (g .fault))) (row h)
+hand-best g (main h) s = g .best h s
+hand-best g (at f y l w) s = let e = fine-early f (g .fault) in record { sooner = omega (arith, leads-le l, facts w .from); lower = λ d. absurd (omega (arith, leads-le l, facts w .from)); nearer = λ d. absurd (omega (arith, leads-le l, facts w .from)) }
+hand-best g (too-long f) s = let e = fine-early f (g .fault) in let z = sized f in record { sooner = omega (arith, z); lower = λ d. absurd (omega (arith, z)); nearer = λ d. absurd (omega (arith, z)) }
+
+unfoldable pub hand-on : {a : List ℕ} {n p : ℕ} → M.Given a n p → Given a n p
+hand-on {a} g = record { fault = main (g .fault); numbered = g .numbered; placed = g .placed; seen = g .seen; best = hand-best g }
 
 pub open-early : {a : List ℕ} → M.Clean a → length a < 3307 → Open a 0 0
 open-early {a} c l = record { clean = clean; whole = inl (l, refl, refl) }

@@ -24,23 +24,31 @@ pub record Six (a : List ℕ) (i : ℕ) : Type 0 where
   pub more : i + 20 < declared a
   pub part : declared a < i + 40
 
--- the header at byte i, after a record of class p and with the tally t, is ranked r: the lowest number of the faults that it shows by itself, 6
--- where 1 to 19 bytes are left after its 20, or 12
-pub record Ranked (a : List ℕ) (p i : ℕ) (t : List ℕ) (r : ℕ) : Type 0 where
+-- the n bytes from byte o of h on are those from byte i of a on
+pub record Facing (h : List ℕ) (o : ℕ) (a : List ℕ) (i n : ℕ) : Type 0 where
+  pub byte : (k : ℕ) → k < n → getD h (o + k) 0 ≡ getD a (i + k) 0
+
+-- r is the lowest of 6 to 11 whose condition holds, or 12
+pub record Lowest (P6 P7 P8 P9 P10 P11 : Type 0) (r : ℕ) : Type 0 where
   pub low : 6 ≤ r
   pub high : r ≤ 12
-  pub six : Six a i → r ≤ 6
-  pub seven : Unknown a i → r ≤ 7
-  pub eight : Misplaced a p i → r ≤ 8
-  pub nine : (Sound a i → ⊥) → r ≤ 9
-  pub ten : timedAt a i ≡ false → r ≤ 10
-  pub eleven : Surplus a t i → r ≤ 11
-  pub is-six : r ≡ 6 → Six a i
-  pub is-seven : r ≡ 7 → Unknown a i
-  pub is-eight : r ≡ 8 → Misplaced a p i
-  pub is-nine : r ≡ 9 → Sound a i → ⊥
-  pub is-ten : r ≡ 10 → timedAt a i ≡ false
-  pub is-eleven : r ≡ 11 → Surplus a t i
+  pub six : P6 → r ≤ 6
+  pub seven : P7 → r ≤ 7
+  pub eight : P8 → r ≤ 8
+  pub nine : P9 → r ≤ 9
+  pub ten : P10 → r ≤ 10
+  pub eleven : P11 → r ≤ 11
+  pub is-six : r ≡ 6 → P6
+  pub is-seven : r ≡ 7 → P7
+  pub is-eight : r ≡ 8 → P8
+  pub is-nine : r ≡ 9 → P9
+  pub is-ten : r ≡ 10 → P10
+  pub is-eleven : r ≡ 11 → P11
+
+-- the header at byte i, after a record of class p and with the tally t, is ranked r: the lowest number of the faults that it shows by itself, 6
+-- where 1 to 19 bytes are left after its 20, or 12
+abbrev pub Ranked : List ℕ → ℕ → ℕ → List ℕ → ℕ → Type 0
+Ranked a p i t r = Lowest (Six a i) (Unknown a i) (Misplaced a p i) (Sound a i → ⊥) (timedAt a i ≡ false) (Surplus a t i) r
 
 -- a size of 20 or more, not past what is left, and 27 for a pointer record
 pub record Sized (c z left : ℕ) : Type 0 where
@@ -62,6 +70,24 @@ pub record SixLeft (c z left : ℕ) : Type 0 where
 pub record SixIn (c z left : ℕ) (r : Bool) : Type 0 where
   pub good : r ≡ true → SixLeft c z left
   pub bad : r ≡ false → SixLeft c z left → ⊥
+
+-- class c is known, and its total is reached
+pub record Excess (ts t : List ℕ) (c : ℕ) : Type 0 where
+  pub known : isClass c ≡ true
+  pub over : getD ts c 0 ≤ getD t c 0
+
+-- the same rank by the header's own bytes, which stand at byte o of h, and by numbers: how many bytes of D are left from its start on, the
+-- class before, the totals and the tally
+abbrev pub RankIs : List ℕ → ℕ → ℕ → ℕ → List ℕ → List ℕ → ℕ → Type 0
+RankIs h o left p ts t r =
+    Lowest (SixLeft (classAt h o) (sizeAt h o) left) (Unknown h o) (Misplaced h p o) (Sized (classAt h o) (sizeAt h o) left → ⊥) (timedAt h o ≡ false) (Excess ts t (classAt h o)) r
+
+-- what it asks
+pub record Rankable (h ts tally : List ℕ) (o p : ℕ) : Type 0 where
+  pub come : o + 20 ≤ length h
+  pub known : isClass p ≡ true
+  pub nine : length ts ≡ 9
+  pub nine′ : length tally ≡ 9
 
 -- what the ranking asks: the header has come and is in the product, the record before it is of a known class
 pub record Ranking (a ts tally : List ℕ) (d i p : ℕ) : Type 0 where

@@ -66,7 +66,7 @@ fn count_at(s: &[u8], at: usize, width: usize) -> usize
 }
 
 // D, the size that the product declares.
-fn size_of(s: &[u8]) -> usize
+pub fn size_of(s: &[u8]) -> usize
     requires { ⌜ Begun (now s) ⌝ }
     ensures { λ r. ⌜ (r ≡ declared (now (s .entry))) × (3307 ≤ r) × (r ≤ 2147483647) ⌝ }
 {
@@ -74,7 +74,7 @@ fn size_of(s: &[u8]) -> usize
 }
 
 // The totals of the records and of each class.
-fn put_totals(s: &[u8], totals: &mut [usize])
+pub fn put_totals(s: &[u8], totals: &mut [usize])
     requires { ⌜ Begun (now s) × (length (now totals) ≡ 9) ⌝ }
     ensures { λ r. ⌜ Totals (now (s .entry)) (now (totals .exit)) ⌝ }
 {
@@ -134,7 +134,7 @@ fn turn(
 }
 
 // A class has fewer records than its total.
-fn is_short(totals: &[usize], tally: &[usize]) -> bool
+pub fn is_short(totals: &[usize], tally: &[usize]) -> bool
     requires { ⌜ (length (now totals) ≡ 9) × (length (now tally) ≡ 9) ⌝ }
     ensures { λ r. ⌜ FewerIs (now (totals .entry)) (now (tally .entry)) r ⌝ }
 {

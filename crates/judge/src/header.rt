@@ -7,7 +7,7 @@ ghost use lib.ListN.{length};
 ghost use Rattle.meter.specs.Integer.{beAt};
 ghost use Rattle.record.specs.Header.{isClass};
 ghost use Rattle.record.specs.Follow.{mayFollow, Ruled};
-ghost use Rattle.judge.specs.Step.{Ranked, Ranking, SizedIs, SixIn};
+ghost use Rattle.judge.specs.Step.{Ranked, Ranking, RankIs, Rankable, SizedIs, SixIn};
 
 pub(crate) fn wide(b: u8) -> usize
     ensures { λ r. ⌜ (r ≡ b) × (r < 256) ⌝ }
@@ -16,7 +16,7 @@ pub(crate) fn wide(b: u8) -> usize
 }
 
 // The number in the 3 bytes from `at` on.
-pub(crate) fn triple(s: &[u8], at: usize) -> usize
+pub fn triple(s: &[u8], at: usize) -> usize
     requires { ⌜ at + 3 ≤ length (now s) ⌝ }
     ensures { λ r. ⌜ (r ≡ beAt (now (s .entry)) at 3) × (r < 16777216) ⌝ }
 {
@@ -24,7 +24,7 @@ pub(crate) fn triple(s: &[u8], at: usize) -> usize
 }
 
 // The number in the 4 bytes from `at` on.
-pub(crate) fn word(s: &[u8], at: usize) -> usize
+pub fn word(s: &[u8], at: usize) -> usize
     requires { ⌜ at + 4 ≤ length (now s) ⌝ }
     ensures { λ r. ⌜ (r ≡ beAt (now (s .entry)) at 4) × (r < 4294967296) ⌝ }
 {
@@ -32,7 +32,7 @@ pub(crate) fn word(s: &[u8], at: usize) -> usize
 }
 
 // 1 to 19 bytes of d are left from `at` on.
-pub(crate) fn is_part(at: usize, d: usize) -> bool
+pub fn is_part(at: usize, d: usize) -> bool
     requires { ⌜ at ≤ d ⌝ }
     ensures { λ r. ⌜ r ≡ (ltb at d && ltb d (at + 20)) ⌝ }
 {
@@ -82,22 +82,22 @@ pub(crate) fn may_follow(follow: &[[bool; 8]; 8], last: u8, class: u8) -> bool
     follow[(last - 1) as usize][(class - 1) as usize]
 }
 
-// The lowest number of the faults that the header at `at` shows by itself, 6 where 1 to 19 bytes are left after its 20, or 12 for none.
-pub(crate) fn rank(
+// The lowest number of the faults that the header at byte `at` of s shows by itself, of whose product `left` bytes are left from its start on;
+// 6 where 1 to 19 bytes are left after its 20, or 12 for none. The bytes may be a whole arrival's, or the header's alone.
+fn rank_in(
     s: &[u8],
     follow: &[[bool; 8]; 8],
     totals: &[usize],
     tally: &[usize],
-    d: usize,
+    left: usize,
     at: usize,
     prev: u8,
 ) -> u8
-    requires { ⌜ Ranking (now s) (now totals) (now tally) d at prev × Ruled (now follow) ⌝ }
-    ensures { λ r. ⌜ Ranked (now (s .entry)) prev at (now (tally .entry)) r ⌝ }
+    requires { ⌜ Rankable (now s) (now totals) (now tally) at prev × Ruled (now follow) ⌝ }
+    ensures { λ r. ⌜ RankIs (now (s .entry)) at left prev (now (totals .entry)) (now (tally .entry)) r ⌝ }
 {
     let class = s[at];
     let size = word(s, at + 4);
-    let left = d - at;
     if is_six(class, size, left) {
         return 6;
     }
@@ -122,12 +122,28 @@ pub(crate) fn rank(
     12
 }
 
+// The rank of the header at `at` of an arrival.
+pub(crate) fn rank(
+    s: &[u8],
+    follow: &[[bool; 8]; 8],
+    totals: &[usize],
+    tally: &[usize],
+    d: usize,
+    at: usize,
+    prev: u8,
+) -> u8
+    requires { ⌜ Ranking (now s) (now totals) (now tally) d at prev × Ruled (now follow) ⌝ }
+    ensures { λ r. ⌜ Ranked (now (s .entry)) prev at (now (tally .entry)) r ⌝ }
+{
+    rank_in(s, follow, totals, tally, d - at, at, prev)
+}
+
 // The most headers that are read ahead.
 const AHEAD: usize = 24;
 
 // Records are mostly of one size, and then their headers can be read ahead side by side, which brings them from memory together;
 // `left` of those read are still ahead. A hint: no answer depends on it.
-pub(crate) fn look_ahead(s: &[u8], at: usize, left: usize) -> usize
+pub fn look_ahead(s: &[u8], at: usize, left: usize) -> usize
     requires { ⌜ at ≤ length (now s) ⌝ }
 {
     if left != 0 {

@@ -2,7 +2,7 @@
 pub use calendar::Refusal;
 
 pub mod arrival;
-mod header;
+pub mod header;
 mod pace;
 mod pending;
 mod pointers;

@@ -1,0 +1,188 @@
+-- `judge::header::rank_in` meets its contract: the tests in the order of the numbers. Assumes nothing.
+use borrow.Author.Tests.{not-true, not-false}
+use denote.Ref.{now}
+use native.Mathlib.Omega.{arith}
+use Prim.Native.Nat.{ℕ, _+_, _≤_, _<_}
+use mathlib.Core.Bool.{true, false}
+use mathlib.Core.List.{List}
+use mathlib.Core.Path.{_≡_, refl, sym, _∙_}
+use lib.ListN.{getD}
+use Rattle.record.specs.Header.{isClass, isGroup}
+use Rattle.record.specs.Follow.{mayFollow}
+use Rattle.record.specs.Times.{timedAt}
+use Rattle.judge.specs.Table.{classAt, sizeAt, Unknown, Misplaced}
+use Rattle.judge.specs.Step.{SixLeft, Sized, Excess}
+use Rattle.judge.proofs.RankLaws.{clash, class-most, rank-6, rank-7, rank-8, rank-9, rank-10, rank-11, rank-12, six-in, not-six-in, sized-in, not-sized-in, known, no-class, no-group}
+use borrow.Author.Needs.{needs}
+use Rattle.judge.proofs.header.rank_in.Statement.{statement}
+use Rattle.judge.proofs.header.rank_in.Tie as tie
+use Rattle.judge.proofs.header.rank_in.Reads as reads
+use Rattle.judge.proofs.header.rank_in.Lts as lts
+use Rattle.judge.proofs.header.is_six.Reads as is-six-reads
+use Rattle.judge.proofs.header.is_sized.Reads as is-sized-reads
+use Rattle.judge.proofs.header.word.Reads as word-reads
+use Rattle.judge.proofs.header.may_follow.Reads as may-follow-reads
+use Rattle.record.proofs.header.is_class.Reads as is-class-reads
+use Rattle.record.proofs.header.is_group.Reads as is-group-reads
+
+shared-slice-read-class : tie.Need-shared-slice-read-class
+shared-slice-read-class c = search needs
+
+add-word : tie.Need-add-word
+add-word c = search needs
+
+word-requires : tie.Need-word-requires
+word-requires c κs = search needs
+
+is-six-requires : tie.Need-is-six-requires
+is-six-requires c κs = search needs
+
+abbrev St : (c : tie.After-word) → tie.Start
+St c = c .before .before .before .before .before
+
+abbrev a : (c : tie.After-word) → List ℕ
+a c = now (St c .args .s)
+
+abbrev i : (c : tie.After-word) → ℕ
+i c = St c .args .at
+
+-- what was found on the way
+no-six : (c : tie.Else1) → SixLeft (classAt (a (c .before .before)) (i (c .before .before))) (sizeAt (a (c .before .before)) (i (c .before .before))) (St (c .before .before) .args .left) → ⊥
+no-six c = not-six-in (c .before .before .word .ensures .0) (c .before .is-six .ensures) (c .if1 .left)
+
+a-class : (c : tie.Else2) → isClass (getD (a (c .before .before .before .before)) (i (c .before .before .before .before)) 0) ≡ true
+a-class c = sym (c .before .is-class .ensures) ∙ not-false (c .before .is-class .result) (c .if2 .left)
+
+abbrev W3 : (c : tie.Else3) → tie.After-word
+W3 c = c .before .before .before .before .before .before .before
+
+not-unknown : (c : tie.Else3) → Unknown (a (W3 c)) (i (W3 c)) → ⊥
+not-unknown c = known (a (W3 c)) (i (W3 c)) (a-class (c .before .before .before)) (sym (c .before .is-group .ensures) ∙ not-false (c .before .is-group .result) (c .if3 .left))
+
+not-misplaced : (c : tie.Else4) → Misplaced (a (W3 (c .before .before))) (St (W3 (c .before .before)) .args .prev) (i (W3 (c .before .before))) → ⊥
+not-misplaced c m = clash (sym (m .against) ∙ sym (c .before .may-follow .ensures) ∙ not-false (c .before .may-follow .result) (c .if4 .left))
+
+returns : tie.Need-returns
+returns c = rank-6 (six-in (c .before .before .word .ensures .0) (c .before .is-six .ensures) (c .if1 .taken))
+
+is-class-requires : tie.Need-is-class-requires
+is-class-requires c κs = search needs
+
+returns-2 : tie.Need-returns-2
+returns-2 c = rank-7 (no-six (c .before .before)) (no-class (a (c .before .before .before .before)) (i (c .before .before .before .before)) (sym (c .before .is-class .ensures) ∙ not-true (c .before .is-class .result) (c .if2 .taken)))
+
+add-is-group : tie.Need-add-is-group
+add-is-group c = search needs
+
+shared-slice-read-is-group : tie.Need-shared-slice-read-is-group
+shared-slice-read-is-group c = search needs
+
+is-group-requires : tie.Need-is-group-requires
+is-group-requires c κs = search needs
+
+returns-3 : tie.Need-returns-3
+returns-3 c = rank-7 (no-six (c .before .before .before .before .before)) (no-group (a (c .before .before .before .before .before .before .before)) (i (c .before .before .before .before .before .before .before)) (a-class (c .before .before .before)) (sym (c .before .is-group .ensures) ∙ not-true (c .before .is-group .result) (c .if3 .taken)))
+
+may-follow-requires : tie.Need-may-follow-requires
+may-follow-requires c κs = let s = St (W3 c) in (s .pre .1, s .pre .0 .known, a-class (c .before .before .before))
+
+returns-4 : tie.Need-returns-4
+returns-4 c =
+    let e = c .before .before in
+    rank-8 (no-six (e .before .before .before .before .before)) (not-unknown e) (record { before = St (W3 e) .pre .0 .known; known = a-class (e .before .before .before); against = sym (c .before .may-follow .ensures) ∙ not-true (c .before .may-follow .result) (c .if4 .taken) })
+
+is-sized-requires : tie.Need-is-sized-requires
+is-sized-requires c κs = search needs
+
+returns-5 : tie.Need-returns-5
+returns-5 c =
+    let f = c .before .before in
+    let e = f .before .before in
+    rank-9 (no-six (e .before .before .before .before .before)) (not-unknown e) (not-misplaced f) (not-sized-in (W3 e .word .ensures .0) (c .before .is-sized .ensures) (not-true (c .before .is-sized .result) (c .if5 .taken)))
+
+stand-requires : tie.Need-stand-requires
+stand-requires c κs = St (W3 (c .before .before .before .before)) .pre .0 .come
+
+is-sound : (c : tie.Else5) → Sized (classAt (a (W3 (c .before .before .before .before))) (i (W3 (c .before .before .before .before)))) (sizeAt (a (W3 (c .before .before .before .before))) (i (W3 (c .before .before .before .before)))) (St (W3 (c .before .before .before .before)) .args .left)
+is-sound c =
+    let e = c .before .before .before .before in
+    sized-in (W3 e .word .ensures .0) (c .before .is-sized .ensures) (not-false (c .before .is-sized .result) (c .if5 .left))
+
+is-timed : (c : tie.Else6) → timedAt (a (W3 (c .before .before .before .before .before .before))) (i (W3 (c .before .before .before .before .before .before))) ≡ false → ⊥
+is-timed c n =
+    let e = W3 (c .before .before .before .before .before .before) in
+    clash (sym n ∙ sym (c .before .stand .ensures) ∙ not-false (c .before .stand .result) (c .if6 .left))
+
+eight : (c : tie.Else6) → getD (a (W3 (c .before .before .before .before .before .before))) (i (W3 (c .before .before .before .before .before .before))) 0 ≤ 8
+eight c = class-most (getD (a (W3 (c .before .before .before .before .before .before))) (i (W3 (c .before .before .before .before .before .before))) 0) (a-class (c .before .before .before .before .before .before .before .before .before)) .1
+
+returns-6 : tie.Need-returns-6
+returns-6 c =
+    let g = c .before .before in
+    let f = g .before .before in
+    let e = f .before .before in
+    rank-10 (no-six (e .before .before .before .before .before)) (not-unknown e) (not-misplaced f) (λ n. n (is-sound g)) (sym (c .before .stand .ensures) ∙ not-true (c .before .stand .result) (c .if6 .taken))
+
+cast-if7 : tie.Need-cast-if7
+cast-if7 c = record { fits = omega (arith, eight c) }
+
+mul-if7 : tie.Need-mul-if7
+mul-if7 c = omega (arith, eight c)
+
+shared-slice-read-if7 : tie.Need-shared-slice-read-if7
+shared-slice-read-if7 c = omega (arith, eight (c .before), St (W3 (c .before .before .before .before .before .before .before)) .pre .0 .nine)
+
+cast-if7-2 : tie.Need-cast-if7-2
+cast-if7-2 c = record { fits = omega (arith, eight (c .before)) }
+
+mul-if7-2 : tie.Need-mul-if7-2
+mul-if7-2 c = omega (arith, eight (c .before))
+
+shared-slice-read-if7-2 : tie.Need-shared-slice-read-if7-2
+shared-slice-read-if7-2 c = omega (arith, eight (c .before .before), St (W3 (c .before .before .before .before .before .before .before .before)) .pre .0 .nine′)
+
+returns-7 : tie.Need-returns-7
+returns-7 c =
+    let h = c .before .before .before in
+    let g = h .before .before in
+    let f = g .before .before in
+    let e = f .before .before in
+    rank-11 (no-six (e .before .before .before .before .before)) (not-unknown e) (not-misplaced f) (λ n. n (is-sound g)) (is-timed h) (record { known = a-class (e .before .before .before); over = c .if7 .taken })
+
+returns-8 : tie.Need-returns-8
+returns-8 c =
+    let h = c .before .before .before in
+    let g = h .before .before in
+    let f = g .before .before in
+    let e = f .before .before in
+    rank-12 (no-six (e .before .before .before .before .before)) (not-unknown e) (not-misplaced f) (λ n. n (is-sound g)) (is-timed h) (λ x. omega (arith, x .over, c .if7 .left))
+
+pub rank-in-spec : {M : Type 1} → statement M
+rank-in-spec =
+    tie.close
+    (tie.spec
+    shared-slice-read-class
+    add-word
+    word-requires
+    is-six-requires
+    returns
+    is-class-requires
+    returns-2
+    add-is-group
+    shared-slice-read-is-group
+    is-group-requires
+    returns-3
+    may-follow-requires
+    returns-4
+    is-sized-requires
+    returns-5
+    stand-requires
+    returns-6
+    cast-if7
+    mul-if7
+    shared-slice-read-if7
+    cast-if7-2
+    mul-if7-2
+    shared-slice-read-if7-2
+    returns-7
+    returns-8)

@@ -8,6 +8,7 @@ use mathlib.Core.Bool.{false}
 use mathlib.Core.List.{List}
 use lib.ListN.{length, getD, set, length-set}
 use lib.Seq.{getD-set-same, getD-set-other}
+use Rattle.meter.specs.General.{numberOf}
 use Rattle.text.proofs.Exact.{is-small}
 use Rattle.mphr.specs.Table.{declared, total, Fine}
 use Rattle.mphr.proofs.LineLaws.{size-number, total-number}
@@ -32,20 +33,25 @@ unfolding total
 total-small {a} b j h = is-small false a (2675 + 39 * j) 6 (total-count b j h .number)
 
 -- the first j totals are in
+-- what is read there is D
+pub size-said : {a : List ℕ} {n : ℕ} → Begun a → (CountAt a 1485 11 → n ≡ numberOf a 1485 11) → (n ≡ declared a) × (3307 ≤ n) × (n ≤ 2147483647)
+unfolding declared
+size-said {a} b e = let z = size-within b in let q = e (size-count b) in (q, omega (arith, z .0, q), omega (arith, z .1, q))
+
 pub record Placed (a t : List ℕ) (j : ℕ) : Type 0 where
   pub within : j ≤ 9
   pub nine : length t ≡ 9
-  pub same : (c : ℕ) → c < j → getD t c 0 ≡ total a c
+  pub same : Begun a → (c : ℕ) → c < j → getD t c 0 ≡ total a c
 
 pub put-first : {a t : List ℕ} → length t ≡ 9 → Placed a t 0
-put-first h = record { within = omega arith; nine = h; same = λ c l. absurd (omega arith) }
+put-first h = record { within = omega arith; nine = h; same = λ b c l. absurd (omega arith) }
 
-pub put-next : {a t : List ℕ} {j v : ℕ} → Placed a t j → j < 9 → v ≡ total a j → Placed a (set t j v) (j + 1)
-put-next {a} {t} {j} {v} p h e = record { within = omega arith; nine = simp length-set (p .nine); same = λ c l. go c l (ℕ-discrete c j) }
+pub put-next : {a t : List ℕ} {j v : ℕ} → Placed a t j → j < 9 → (Begun a → v ≡ total a j) → Placed a (set t j v) (j + 1)
+put-next {a} {t} {j} {v} p h e = record { within = omega arith; nine = simp length-set (p .nine); same = λ b c l. go b c l (ℕ-discrete c j) }
   where
-    go : (c : ℕ) → c < j + 1 → Dec (c ≡ j) → getD (set t j v) c 0 ≡ total a c
-    go c l (yes q) = rw q (rw (getD-set-same t j v 0 (omega (arith, p .nine))) e)
-    go c l (no n) = rw (getD-set-other t j c v 0 n) (p .same c (omega (arith, n)))
+    go : Begun a → (c : ℕ) → c < j + 1 → Dec (c ≡ j) → getD (set t j v) c 0 ≡ total a c
+    go b c l (yes q) = rw q (rw (getD-set-same t j v 0 (omega (arith, p .nine))) (e b))
+    go b c l (no n) = rw (getD-set-other t j c v 0 n) (p .same b c (omega (arith, n)))
 
 pub put-last : {a t : List ℕ} {j : ℕ} → Begun a → Placed a t j → 9 ≤ j → Totals a t
-put-last b p h = record { nine = p .nine; same = λ c l. p .same c (omega arith); small = λ c l. total-small b c (omega arith) }
+put-last b p h = record { nine = p .nine; same = λ c l. p .same b c (omega arith); small = λ c l. total-small b c (omega arith) }

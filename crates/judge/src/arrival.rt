@@ -51,10 +51,9 @@ pub enum Turned {
     },
 }
 
-// The number of a field of a fine main header.
-fn count_at(s: &[u8], at: usize, width: usize) -> usize
-    requires { ⌜ CountAt (now s) at width ⌝ }
-    ensures { λ r. ⌜ r ≡ numberOf (now (s .entry)) at width ⌝ }
+// The number of a field that has one, as each field of the size and the totals has in a fine main header.
+pub(crate) fn count_at(s: &[u8], at: usize, width: usize) -> usize
+    ensures { λ r. ⌜ (CountAt (now (s .entry)) at width → r ≡ numberOf (now (s .entry)) at width) ⌝ }
 {
     let NumberRead::Number(n) = text::read_number(s, at, width, false) else {
         return 0;
@@ -62,11 +61,14 @@ fn count_at(s: &[u8], at: usize, width: usize) -> usize
     let Number::Whole(z) = n else {
         return 0;
     };
+    if z < 0 {
+        return 0;
+    }
     z as usize
 }
 
 // D, the size that the product declares.
-pub fn size_of(s: &[u8]) -> usize
+fn size_of(s: &[u8]) -> usize
     requires { ⌜ Begun (now s) ⌝ }
     ensures { λ r. ⌜ (r ≡ declared (now (s .entry))) × (3307 ≤ r) × (r ≤ 2147483647) ⌝ }
 {
@@ -74,9 +76,9 @@ pub fn size_of(s: &[u8]) -> usize
 }
 
 // The totals of the records and of each class.
-pub fn put_totals(s: &[u8], totals: &mut [usize])
-    requires { ⌜ Begun (now s) × (length (now totals) ≡ 9) ⌝ }
-    ensures { λ r. ⌜ Totals (now (s .entry)) (now (totals .exit)) ⌝ }
+pub(crate) fn put_totals(s: &[u8], totals: &mut [usize])
+    requires { ⌜ length (now totals) ≡ 9 ⌝ }
+    ensures { λ r. ⌜ (Begun (now (s .entry)) → Totals (now (s .entry)) (now (totals .exit))) ⌝ }
 {
     let mut j: usize = 0;
     while j < 9 {
@@ -134,7 +136,7 @@ fn turn(
 }
 
 // A class has fewer records than its total.
-pub fn is_short(totals: &[usize], tally: &[usize]) -> bool
+pub(crate) fn is_short(totals: &[usize], tally: &[usize]) -> bool
     requires { ⌜ (length (now totals) ≡ 9) × (length (now tally) ≡ 9) ⌝ }
     ensures { λ r. ⌜ FewerIs (now (totals .entry)) (now (tally .entry)) r ⌝ }
 {

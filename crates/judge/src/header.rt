@@ -16,7 +16,7 @@ pub(crate) fn wide(b: u8) -> usize
 }
 
 // The number in the 3 bytes from `at` on.
-pub fn triple(s: &[u8], at: usize) -> usize
+pub(crate) fn triple(s: &[u8], at: usize) -> usize
     requires { ⌜ at + 3 ≤ length (now s) ⌝ }
     ensures { λ r. ⌜ (r ≡ beAt (now (s .entry)) at 3) × (r < 16777216) ⌝ }
 {
@@ -24,7 +24,7 @@ pub fn triple(s: &[u8], at: usize) -> usize
 }
 
 // The number in the 4 bytes from `at` on.
-pub fn word(s: &[u8], at: usize) -> usize
+pub(crate) fn word(s: &[u8], at: usize) -> usize
     requires { ⌜ at + 4 ≤ length (now s) ⌝ }
     ensures { λ r. ⌜ (r ≡ beAt (now (s .entry)) at 4) × (r < 4294967296) ⌝ }
 {
@@ -33,10 +33,9 @@ pub fn word(s: &[u8], at: usize) -> usize
 
 // 1 to 19 bytes of d are left from `at` on.
 pub fn is_part(at: usize, d: usize) -> bool
-    requires { ⌜ at ≤ d ⌝ }
     ensures { λ r. ⌜ r ≡ (ltb at d && ltb d (at + 20)) ⌝ }
 {
-    if at == d {
+    if d <= at {
         return false;
     }
     d - at < 20
@@ -76,15 +75,15 @@ fn is_six(class: u8, size: usize, left: usize) -> bool
 
 // Whether a record of the class may follow one of the class `last`, by the table that is at hand.
 pub(crate) fn may_follow(follow: &[[bool; 8]; 8], last: u8, class: u8) -> bool
-    requires { ⌜ Ruled (now follow) × (isClass last ≡ true) × (isClass class ≡ true) ⌝ }
-    ensures { λ r. ⌜ r ≡ mayFollow last class ⌝ }
+    requires { ⌜ (isClass last ≡ true) × (isClass class ≡ true) ⌝ }
+    ensures { λ r. ⌜ (Ruled (now (follow .entry)) → r ≡ mayFollow last class) ⌝ }
 {
     follow[(last - 1) as usize][(class - 1) as usize]
 }
 
 // The lowest number of the faults that the header at byte `at` of s shows by itself, of whose product `left` bytes are left from its start on;
 // 6 where 1 to 19 bytes are left after its 20, or 12 for none. The bytes may be a whole arrival's, or the header's alone.
-fn rank_in(
+pub(crate) fn rank_in(
     s: &[u8],
     follow: &[[bool; 8]; 8],
     totals: &[usize],
@@ -93,8 +92,8 @@ fn rank_in(
     at: usize,
     prev: u8,
 ) -> u8
-    requires { ⌜ Rankable (now s) (now totals) (now tally) at prev × Ruled (now follow) ⌝ }
-    ensures { λ r. ⌜ RankIs (now (s .entry)) at left prev (now (totals .entry)) (now (tally .entry)) r ⌝ }
+    requires { ⌜ Rankable (now s) (now totals) (now tally) at prev ⌝ }
+    ensures { λ r. ⌜ (Ruled (now (follow .entry)) → RankIs (now (s .entry)) at left prev (now (totals .entry)) (now (tally .entry)) r) ⌝ }
 {
     let class = s[at];
     let size = word(s, at + 4);
@@ -143,11 +142,12 @@ const AHEAD: usize = 24;
 
 // Records are mostly of one size, and then their headers can be read ahead side by side, which brings them from memory together;
 // `left` of those read are still ahead. A hint: no answer depends on it.
-pub fn look_ahead(s: &[u8], at: usize, left: usize) -> usize
-    requires { ⌜ at ≤ length (now s) ⌝ }
-{
+pub fn look_ahead(s: &[u8], at: usize, left: usize) -> usize {
     if left != 0 {
         return left - 1;
+    }
+    if s.len() < at {
+        return 0;
     }
     if s.len() - at < 8 {
         return 0;

@@ -2,8 +2,9 @@
 pub use calendar::Refusal;
 
 pub mod arrival;
-pub mod header;
+mod header;
 mod pace;
+pub mod parts;
 mod pending;
 mod pointers;
 mod times;

@@ -1,6 +1,7 @@
 -- `judge::arrival::put_totals` meets its contract: after j turns the first j totals are in. Assumes nothing.
 use Prim.Native.Nat.{_-_}
 use native.Mathlib.Omega.{arith}
+use borrow.Author.Needs.{needs}
 use Rattle.mphr.specs.Table.{total}
 use Rattle.judge.proofs.CountLaws.{total-count, Placed, put-first, put-next, put-last}
 use Rattle.judge.proofs.arrival.put_totals.Statement.{statement}
@@ -13,7 +14,7 @@ abbrev μ-loop : tie.MeasureT-loop
 μ-loop s totals₀ j₀ totals j = 9 - j
 
 loop-holds : tie.Need-loop-holds Inv-loop μ-loop
-loop-holds c = put-first (c .before .before .pre .1)
+loop-holds c = put-first (c .before .before .pre)
 
 mul-count-at : tie.Need-mul-count-at Inv-loop μ-loop
 mul-count-at c = omega arith
@@ -22,7 +23,7 @@ add-count-at : tie.Need-add-count-at Inv-loop μ-loop
 add-count-at c = omega arith
 
 count-at-requires : tie.Need-count-at-requires Inv-loop μ-loop
-count-at-requires c κs = total-count (c .before .before .before .before .pre .0) (c .before .loop .j) (c .loop-test .taken)
+count-at-requires c κs = search needs
 
 mul-totals : tie.Need-mul-totals Inv-loop μ-loop
 mul-totals c = omega arith
@@ -38,13 +39,15 @@ loop-less c = omega arith
 
 loop-again : tie.Need-loop-again Inv-loop μ-loop
 unfolding total
-loop-again c = put-next (c .before .before .loop .inv) (c .before .loop-test .taken) (c .count-at .ensures)
+loop-again c =
+    let l = c .before .before .loop in
+    put-next (l .inv) (c .before .loop-test .taken) (λ b. c .count-at .ensures (total-count b (l .j) (c .before .loop-test .taken)))
 
 same-length : tie.Need-same-length Inv-loop μ-loop
-same-length c = omega (arith, c .before .loop .inv .nine, c .before .before .before .before .pre .1)
+same-length c = omega (arith, c .before .loop .inv .nine, c .before .before .before .before .pre)
 
 returns : tie.Need-returns Inv-loop μ-loop
-returns c = put-last (c .before .before .before .before .pre .0) (c .before .loop .inv) (c .loop-test .left)
+returns c b = put-last b (c .before .loop .inv) (c .loop-test .left)
 
 pub put-totals-spec : {M : Type 1} → statement M
 put-totals-spec =

@@ -25,7 +25,7 @@ walking c =
       least = z .ensures .1;
       small = z .ensures .2;
       not-part = λ h. omega (arith, not-part 3307 (z .result) (sym (e .before .is-part .ensures) ∙ e .if1 .left) h);
-      totals = c .put-totals .ensures;
+      totals = c .put-totals .ensures (St c .pre);
     }
 
 size-of-requires : tie.Need-size-of-requires

@@ -19,11 +19,14 @@ sub-result c = search needs
 returns : tie.Need-returns Inv-loop μ-loop
 returns c = search needs
 
-sub-if2 : tie.Need-sub-if2 Inv-loop μ-loop
-sub-if2 c = search needs
-
 returns-2 : tie.Need-returns-2 Inv-loop μ-loop
 returns-2 c = search needs
+
+sub-if3 : tie.Need-sub-if3 Inv-loop μ-loop
+sub-if3 c = search needs
+
+returns-3 : tie.Need-returns-3 Inv-loop μ-loop
+returns-3 c = search needs
 
 add-word : tie.Need-add-word Inv-loop μ-loop
 add-word c = search needs
@@ -32,28 +35,28 @@ word-requires : tie.Need-word-requires Inv-loop μ-loop
 word-requires c κs = search needs
 
 loop-holds : tie.Need-loop-holds Inv-loop μ-loop
-loop-holds c = omega (arith, c .before .if2 .left)
+loop-holds c = omega (arith, c .before .if3 .left)
 
-sub-if3 : tie.Need-sub-if3 Inv-loop μ-loop
-sub-if3 c = omega (arith, c .before .loop .inv)
+sub-if4 : tie.Need-sub-if4 Inv-loop μ-loop
+sub-if4 c = omega (arith, c .before .loop .inv)
 
-add-if3 : tie.Need-add-if3 Inv-loop μ-loop
-add-if3 c = omega (arith, c .before .before .word .ensures .1)
-
-returns-3 : tie.Need-returns-3 Inv-loop μ-loop
-returns-3 c = search needs
-
-add-i : tie.Need-add-i Inv-loop μ-loop
-add-i c = omega (arith, c .if3 .left, c .before .before .loop .inv)
-
-add-word-2 : tie.Need-add-word-2 Inv-loop μ-loop
-add-word-2 c = omega (arith, c .if3 .left, c .before .before .loop .inv)
-
-word-requires-2 : tie.Need-word-requires-2 Inv-loop μ-loop
-word-requires-2 c κs = omega (arith, c .if3 .left, c .before .before .loop .inv)
+add-if4 : tie.Need-add-if4 Inv-loop μ-loop
+add-if4 c = omega (arith, c .before .before .word .ensures .1)
 
 returns-4 : tie.Need-returns-4 Inv-loop μ-loop
 returns-4 c = search needs
+
+add-i : tie.Need-add-i Inv-loop μ-loop
+add-i c = omega (arith, c .if4 .left, c .before .before .loop .inv)
+
+add-word-2 : tie.Need-add-word-2 Inv-loop μ-loop
+add-word-2 c = omega (arith, c .if4 .left, c .before .before .loop .inv)
+
+word-requires-2 : tie.Need-word-requires-2 Inv-loop μ-loop
+word-requires-2 c κs = omega (arith, c .if4 .left, c .before .before .loop .inv)
+
+returns-5 : tie.Need-returns-5 Inv-loop μ-loop
+returns-5 c = search needs
 
 add-n : tie.Need-add-n Inv-loop μ-loop
 add-n c = search needs
@@ -62,10 +65,10 @@ loop-less : tie.Need-loop-less Inv-loop μ-loop
 loop-less c = search needs
 
 loop-again : tie.Need-loop-again Inv-loop μ-loop
-loop-again c = omega (arith, c .before .before .if3 .left, c .before .before .before .before .loop .inv)
+loop-again c = omega (arith, c .before .before .if4 .left, c .before .before .before .before .loop .inv)
 
-returns-5 : tie.Need-returns-5 Inv-loop μ-loop
-returns-5 c = search needs
+returns-6 : tie.Need-returns-6 Inv-loop μ-loop
+returns-6 c = search needs
 
 pub look-ahead-spec : {M : Type 1} → statement M
 look-ahead-spec =
@@ -75,19 +78,20 @@ look-ahead-spec =
     μ-loop
     sub-result
     returns
-    sub-if2
     returns-2
+    sub-if3
+    returns-3
     add-word
     word-requires
     loop-holds
-    sub-if3
-    add-if3
-    returns-3
+    sub-if4
+    add-if4
+    returns-4
     add-i
     add-word-2
     word-requires-2
-    returns-4
+    returns-5
     add-n
     loop-less
     loop-again
-    returns-5)
+    returns-6)

@@ -21,7 +21,7 @@ returns c =
     let s = c .before .before .before .before in
     let k = s .pre .0 in
     ranked-of {h = now (s .args .s)} {a = now (s .args .s)} {o = s .args .at} {i = s .args .at} {n = 20} (record { byte = λ k l. refl }) (omega arith) (now (s .args .totals)) (now (s .args .tally)) (s .args .prev) (s .args .d - s .args .at)
-    (omega (arith, k .room, k .d-is)) (omega (arith, k .d-is)) (k .known) (k .totals) (c .rank-in .ensures)
+    (omega (arith, k .room, k .d-is)) (omega (arith, k .d-is)) (k .known) (k .totals) (c .rank-in .ensures (s .pre .1))
 
 pub rank-spec : {M : Type 1} → statement M
 rank-spec = tie.close (tie.spec sub-rank-in rank-in-requires returns)

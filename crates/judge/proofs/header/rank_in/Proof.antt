@@ -8,7 +8,7 @@ use mathlib.Core.List.{List}
 use mathlib.Core.Path.{_≡_, refl, sym, _∙_}
 use lib.ListN.{getD}
 use Rattle.record.specs.Header.{isClass, isGroup}
-use Rattle.record.specs.Follow.{mayFollow}
+use Rattle.record.specs.Follow.{mayFollow, Ruled}
 use Rattle.record.specs.Times.{timedAt}
 use Rattle.judge.specs.Table.{classAt, sizeAt, Unknown, Misplaced}
 use Rattle.judge.specs.Step.{SixLeft, Sized, Excess}
@@ -59,17 +59,17 @@ W3 c = c .before .before .before .before .before .before .before
 not-unknown : (c : tie.Else3) → Unknown (a (W3 c)) (i (W3 c)) → ⊥
 not-unknown c = known (a (W3 c)) (i (W3 c)) (a-class (c .before .before .before)) (sym (c .before .is-group .ensures) ∙ not-false (c .before .is-group .result) (c .if3 .left))
 
-not-misplaced : (c : tie.Else4) → Misplaced (a (W3 (c .before .before))) (St (W3 (c .before .before)) .args .prev) (i (W3 (c .before .before))) → ⊥
-not-misplaced c m = clash (sym (m .against) ∙ sym (c .before .may-follow .ensures) ∙ not-false (c .before .may-follow .result) (c .if4 .left))
+not-misplaced : (c : tie.Else4) → Ruled (now (St (W3 (c .before .before)) .args .follow)) → Misplaced (a (W3 (c .before .before))) (St (W3 (c .before .before)) .args .prev) (i (W3 (c .before .before))) → ⊥
+not-misplaced c ruled m = clash (sym (m .against) ∙ sym (c .before .may-follow .ensures ruled) ∙ not-false (c .before .may-follow .result) (c .if4 .left))
 
 returns : tie.Need-returns
-returns c = rank-6 (six-in (c .before .before .word .ensures .0) (c .before .is-six .ensures) (c .if1 .taken))
+returns c ruled = rank-6 (six-in (c .before .before .word .ensures .0) (c .before .is-six .ensures) (c .if1 .taken))
 
 is-class-requires : tie.Need-is-class-requires
 is-class-requires c κs = search needs
 
 returns-2 : tie.Need-returns-2
-returns-2 c = rank-7 (no-six (c .before .before)) (no-class (a (c .before .before .before .before)) (i (c .before .before .before .before)) (sym (c .before .is-class .ensures) ∙ not-true (c .before .is-class .result) (c .if2 .taken)))
+returns-2 c ruled = rank-7 (no-six (c .before .before)) (no-class (a (c .before .before .before .before)) (i (c .before .before .before .before)) (sym (c .before .is-class .ensures) ∙ not-true (c .before .is-class .result) (c .if2 .taken)))
 
 add-is-group : tie.Need-add-is-group
 add-is-group c = search needs
@@ -81,27 +81,27 @@ is-group-requires : tie.Need-is-group-requires
 is-group-requires c κs = search needs
 
 returns-3 : tie.Need-returns-3
-returns-3 c = rank-7 (no-six (c .before .before .before .before .before)) (no-group (a (c .before .before .before .before .before .before .before)) (i (c .before .before .before .before .before .before .before)) (a-class (c .before .before .before)) (sym (c .before .is-group .ensures) ∙ not-true (c .before .is-group .result) (c .if3 .taken)))
+returns-3 c ruled = rank-7 (no-six (c .before .before .before .before .before)) (no-group (a (c .before .before .before .before .before .before .before)) (i (c .before .before .before .before .before .before .before)) (a-class (c .before .before .before)) (sym (c .before .is-group .ensures) ∙ not-true (c .before .is-group .result) (c .if3 .taken)))
 
 may-follow-requires : tie.Need-may-follow-requires
-may-follow-requires c κs = let s = St (W3 c) in (s .pre .1, s .pre .0 .known, a-class (c .before .before .before))
+may-follow-requires c κs = let s = St (W3 c) in (s .pre .known, a-class (c .before .before .before))
 
 returns-4 : tie.Need-returns-4
-returns-4 c =
+returns-4 c ruled =
     let e = c .before .before in
-    rank-8 (no-six (e .before .before .before .before .before)) (not-unknown e) (record { before = St (W3 e) .pre .0 .known; known = a-class (e .before .before .before); against = sym (c .before .may-follow .ensures) ∙ not-true (c .before .may-follow .result) (c .if4 .taken) })
+    rank-8 (no-six (e .before .before .before .before .before)) (not-unknown e) (record { before = St (W3 e) .pre .known; known = a-class (e .before .before .before); against = sym (c .before .may-follow .ensures ruled) ∙ not-true (c .before .may-follow .result) (c .if4 .taken) })
 
 is-sized-requires : tie.Need-is-sized-requires
 is-sized-requires c κs = search needs
 
 returns-5 : tie.Need-returns-5
-returns-5 c =
+returns-5 c ruled =
     let f = c .before .before in
     let e = f .before .before in
-    rank-9 (no-six (e .before .before .before .before .before)) (not-unknown e) (not-misplaced f) (not-sized-in (W3 e .word .ensures .0) (c .before .is-sized .ensures) (not-true (c .before .is-sized .result) (c .if5 .taken)))
+    rank-9 (no-six (e .before .before .before .before .before)) (not-unknown e) (not-misplaced f ruled) (not-sized-in (W3 e .word .ensures .0) (c .before .is-sized .ensures) (not-true (c .before .is-sized .result) (c .if5 .taken)))
 
 stand-requires : tie.Need-stand-requires
-stand-requires c κs = St (W3 (c .before .before .before .before)) .pre .0 .come
+stand-requires c κs = St (W3 (c .before .before .before .before)) .pre .come
 
 is-sound : (c : tie.Else5) → Sized (classAt (a (W3 (c .before .before .before .before))) (i (W3 (c .before .before .before .before)))) (sizeAt (a (W3 (c .before .before .before .before))) (i (W3 (c .before .before .before .before)))) (St (W3 (c .before .before .before .before)) .args .left)
 is-sound c =
@@ -117,11 +117,11 @@ eight : (c : tie.Else6) → getD (a (W3 (c .before .before .before .before .befo
 eight c = class-most (getD (a (W3 (c .before .before .before .before .before .before))) (i (W3 (c .before .before .before .before .before .before))) 0) (a-class (c .before .before .before .before .before .before .before .before .before)) .1
 
 returns-6 : tie.Need-returns-6
-returns-6 c =
+returns-6 c ruled =
     let g = c .before .before in
     let f = g .before .before in
     let e = f .before .before in
-    rank-10 (no-six (e .before .before .before .before .before)) (not-unknown e) (not-misplaced f) (λ n. n (is-sound g)) (sym (c .before .stand .ensures) ∙ not-true (c .before .stand .result) (c .if6 .taken))
+    rank-10 (no-six (e .before .before .before .before .before)) (not-unknown e) (not-misplaced f ruled) (λ n. n (is-sound g)) (sym (c .before .stand .ensures) ∙ not-true (c .before .stand .result) (c .if6 .taken))
 
 cast-if7 : tie.Need-cast-if7
 cast-if7 c = record { fits = omega (arith, eight c) }
@@ -130,7 +130,7 @@ mul-if7 : tie.Need-mul-if7
 mul-if7 c = omega (arith, eight c)
 
 shared-slice-read-if7 : tie.Need-shared-slice-read-if7
-shared-slice-read-if7 c = omega (arith, eight (c .before), St (W3 (c .before .before .before .before .before .before .before)) .pre .0 .nine)
+shared-slice-read-if7 c = omega (arith, eight (c .before), St (W3 (c .before .before .before .before .before .before .before)) .pre .nine)
 
 cast-if7-2 : tie.Need-cast-if7-2
 cast-if7-2 c = record { fits = omega (arith, eight (c .before)) }
@@ -139,23 +139,23 @@ mul-if7-2 : tie.Need-mul-if7-2
 mul-if7-2 c = omega (arith, eight (c .before))
 
 shared-slice-read-if7-2 : tie.Need-shared-slice-read-if7-2
-shared-slice-read-if7-2 c = omega (arith, eight (c .before .before), St (W3 (c .before .before .before .before .before .before .before .before)) .pre .0 .nine′)
+shared-slice-read-if7-2 c = omega (arith, eight (c .before .before), St (W3 (c .before .before .before .before .before .before .before .before)) .pre .nine′)
 
 returns-7 : tie.Need-returns-7
-returns-7 c =
+returns-7 c ruled =
     let h = c .before .before .before in
     let g = h .before .before in
     let f = g .before .before in
     let e = f .before .before in
-    rank-11 (no-six (e .before .before .before .before .before)) (not-unknown e) (not-misplaced f) (λ n. n (is-sound g)) (is-timed h) (record { known = a-class (e .before .before .before); over = c .if7 .taken })
+    rank-11 (no-six (e .before .before .before .before .before)) (not-unknown e) (not-misplaced f ruled) (λ n. n (is-sound g)) (is-timed h) (record { known = a-class (e .before .before .before); over = c .if7 .taken })
 
 returns-8 : tie.Need-returns-8
-returns-8 c =
+returns-8 c ruled =
     let h = c .before .before .before in
     let g = h .before .before in
     let f = g .before .before in
     let e = f .before .before in
-    rank-12 (no-six (e .before .before .before .before .before)) (not-unknown e) (not-misplaced f) (λ n. n (is-sound g)) (is-timed h) (λ x. omega (arith, x .over, c .if7 .left))
+    rank-12 (no-six (e .before .before .before .before .before)) (not-unknown e) (not-misplaced f ruled) (λ n. n (is-sound g)) (is-timed h) (λ x. omega (arith, x .over, c .if7 .left))
 
 pub rank-in-spec : {M : Type 1} → statement M
 rank-in-spec =

@@ -42,7 +42,7 @@ may-follow-requires : tie.Need-may-follow-requires
 may-follow-requires c κs =
     let f = c .before in
     let s = f .before .before .before .before .before .before .before .before .before .before in
-    (s .pre .1, s .pre .0 .known, ap isClass (f .if4 .left) ∙ s .pre .0 .known)
+    (s .pre .0 .known, ap isClass (f .if4 .left) ∙ s .pre .0 .known)
 
 returns-5 : tie.Need-returns-5
 returns-5 c = λ e. clash e
@@ -76,7 +76,7 @@ returns-7 c = λ e.
       come = h .if2 .left;
       size-is = sym (z .if3 .left) ∙ w .word .ensures .0;
       class-is = f .if4 .left;
-      follows = sym (m .before .may-follow .ensures) ∙ not-false (m .before .may-follow .result) (m .if5 .left);
+      follows = sym (m .before .may-follow .ensures (s .pre .1)) ∙ not-false (m .before .may-follow .result) (m .if5 .left);
       group = sym (g .before .is-group .ensures) ∙ not-false (g .before .is-group .result) (g .if6 .left);
       timed = sym (c .surely-stand .ensures e);
     }

@@ -1,0 +1,57 @@
+// What the walk over a whole arrival asks, for a walk that holds the main header, one record's header and numbers alone (request One's watch). Each
+// takes any bytes and numbers and ends; what it promises, it promises of those that such a walk comes to.
+use crate::arrival::count_at;
+use crate::arrival::is_short;
+use crate::arrival::put_totals;
+use crate::header::rank_in;
+pub use crate::header::is_part;
+pub use crate::header::look_ahead;
+ghost use mathlib.Core.Path.{_≡_};
+ghost use mathlib.Core.Bool.{true};
+ghost use Prim.Native.Nat.{_≤_};
+ghost use Rattle.record.specs.Header.{isClass};
+ghost use Rattle.record.specs.Follow.{Ruled};
+ghost use Rattle.mphr.specs.Table.{declared};
+ghost use Rattle.judge.specs.Step.{RankIs};
+ghost use Rattle.judge.specs.Turning.{Begun, Totals, FewerIs};
+
+// The lowest number of the faults that a header shows by itself, as `rank_in` has it, where a record of the class `prev` is before it and the table is
+// the rule.
+pub fn header_rank<'a>(
+    under: &'a [u8; 27],
+    follow: &'a [[bool; 8]; 8],
+    totals: &'a [usize; 9],
+    tally: &'a [usize; 9],
+    left: usize,
+    prev: u8,
+) -> u8
+    ensures { λ r. ⌜ (isClass prev ≡ true → Ruled (now (follow .entry)) → RankIs (now (under .entry)) 0 left prev (now (totals .entry)) (now (tally .entry)) r) ⌝ }
+{
+    if !record::header::is_class(prev) {
+        return 12;
+    }
+    rank_in(under, follow, totals, tally, left, 0, prev)
+}
+
+// D of a fine main header.
+pub fn declared_size(main: &[u8; 3307]) -> usize
+    ensures { λ r. ⌜ (Begun (now (main .entry)) → (r ≡ declared (now (main .entry))) × (3307 ≤ r) × (r ≤ 2147483647)) ⌝ }
+{
+    count_at(main, 1485, 11)
+}
+
+// Its totals of the records and of each class.
+pub fn totals_of(main: &[u8; 3307]) -> [usize; 9]
+    ensures { λ r. ⌜ (Begun (now (main .entry)) → Totals (now (main .entry)) r) ⌝ }
+{
+    let mut totals = [0usize; 9];
+    put_totals(main, &mut totals);
+    totals
+}
+
+// A class has fewer records than its total.
+pub fn is_fewer<'a>(totals: &'a [usize; 9], tally: &'a [usize; 9]) -> bool
+    ensures { λ r. ⌜ FewerIs (now (totals .entry)) (now (tally .entry)) r ⌝ }
+{
+    is_short(totals, tally)
+}

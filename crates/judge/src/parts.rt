@@ -3,12 +3,15 @@
 use crate::arrival::count_at;
 use crate::arrival::is_short;
 use crate::arrival::put_totals;
-use crate::header::rank_in;
 pub use crate::header::is_part;
 pub use crate::header::look_ahead;
+use crate::header::rank_in;
+use crate::header::triple;
+use crate::header::word;
 ghost use mathlib.Core.Path.{_≡_};
 ghost use mathlib.Core.Bool.{true};
-ghost use Prim.Native.Nat.{_≤_};
+ghost use Prim.Native.Nat.{_≤_, _<_};
+ghost use Rattle.meter.specs.Integer.{beAt};
 ghost use Rattle.record.specs.Header.{isClass};
 ghost use Rattle.record.specs.Follow.{Ruled};
 ghost use Rattle.mphr.specs.Table.{declared};
@@ -54,4 +57,24 @@ pub fn is_fewer<'a>(totals: &'a [usize; 9], tally: &'a [usize; 9]) -> bool
     ensures { λ r. ⌜ FewerIs (now (totals .entry)) (now (tally .entry)) r ⌝ }
 {
     is_short(totals, tally)
+}
+
+// The number in the 4 bytes of a header from `at` on; 0 where they are not all there.
+pub fn word_in(under: &[u8; 27], at: usize) -> usize
+    ensures { λ r. ⌜ (at ≤ 23 → r ≡ beAt (now (under .entry)) at 4) × (r < 4294967296) ⌝ }
+{
+    if 23 < at {
+        return 0;
+    }
+    word(under, at)
+}
+
+// The number in the 3 bytes from `at` on: class, group and subclass, of a record or of a target; 0 where they are not all there.
+pub fn kind_in(under: &[u8; 27], at: usize) -> usize
+    ensures { λ r. ⌜ (at ≤ 24 → r ≡ beAt (now (under .entry)) at 3) × (r < 16777216) ⌝ }
+{
+    if 24 < at {
+        return 0;
+    }
+    triple(under, at)
 }

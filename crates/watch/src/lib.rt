@@ -9,20 +9,21 @@ use crate::under_way::fill;
 use crate::under_way::head_fault;
 use crate::under_way::is_aim;
 use crate::under_way::keep;
-use crate::under_way::triple;
-use crate::under_way::word;
 use calendar::Refusal;
 use judge::arrival::Arrival;
 use judge::parts::header_rank;
 use judge::parts::is_fewer;
 use judge::parts::is_part;
+use judge::parts::kind_in;
 use judge::parts::look_ahead;
+use judge::parts::word_in;
 use mphr::faults::HeaderFault;
 ghost use mathlib.Core.Path.{_≡_};
 ghost use mathlib.Core.Bool.{true};
 ghost use Prim.Native.Nat.{_+_, _-_, _≤_, _<_};
 ghost use lib.ListN.{length, getD};
 ghost use Rattle.record.specs.Header.{isClass};
+ghost use Rattle.record.specs.Follow.{Ruled};
 ghost use Rattle.judge.specs.Turning.{refusedAt, FewerIs};
 ghost use Rattle.watch.specs.Stands.{Fresh, FedIs};
 ghost use Rattle.watch.specs.Turning.{TurnIs, OneMoreIs, SaneIs, SaneWatch, WalkIs, AdvanceIs};
@@ -31,9 +32,9 @@ ghost use Rattle.watch.specs.Turning.{TurnIs, OneMoreIs, SaneIs, SaneWat
 pub struct Watch {
     pub head: [u8; 3307],
     pub under: [u8; 27],
-    pub starts: [usize; 64],
-    pub targets: [usize; 64],
-    pub kinds: [usize; 64],
+    pub starts: [u32; 64],
+    pub targets: [u32; 64],
+    pub kinds: [u32; 64],
     pub totals: [usize; 9],
     pub tally: [usize; 9],
     pub got: usize,
@@ -91,11 +92,12 @@ fn is_one_more(class: u8, pointers: usize) -> bool
 // The record that starts at `at`, of whose header `have` bytes are held, in an arrival of `len` bytes.
 fn turn<'a>(
     under: &'a [u8; 27],
+    follow: &'a [[bool; 8]; 8],
     totals: &'a [usize; 9],
     tally: &'a [usize; 9],
-    starts: &'a [usize; 64],
-    targets: &'a [usize; 64],
-    kinds: &'a [usize; 64],
+    starts: &'a [u32; 64],
+    targets: &'a [u32; 64],
+    kinds: &'a [u32; 64],
     have: usize,
     len: usize,
     d: usize,
@@ -103,13 +105,13 @@ fn turn<'a>(
     due: usize,
     prev: u8,
 ) -> Turned
-    requires { ⌜ (at ≤ d) × (d ≤ 2147483647) × (getD (now tally) 3 0 ≤ 64) × (isClass prev ≡ true) ⌝ }
+    requires { ⌜ (at ≤ d) × (d ≤ 2147483647) × (getD (now tally) 3 0 ≤ 64) × (isClass prev ≡ true) × Ruled (now follow) ⌝ }
     ensures { λ r. ⌜ TurnIs (now (under .entry)) (now (totals .entry)) (now (tally .entry)) (now (starts .entry)) (now (targets .entry)) (now (kinds .entry)) have len d at due prev r ⌝ }
 {
     if have < 20 {
         return Turned::Wait;
     }
-    let h = rank_at(under, totals, tally, d - at, 0, prev);
+    let h = header_rank(under, follow, totals, tally, d - at, prev);
     if h == 6 {
         return Turned::Refuse {
             number: 6,
@@ -130,7 +132,7 @@ fn turn<'a>(
             place: at,
         };
     }
-    let to = at + word(under, 4);
+    let to = at + word_in(under, 4);
     match settle(
         starts,
         targets,
@@ -140,7 +142,7 @@ fn turn<'a>(
         at,
         to,
         d,
-        triple(under, 0),
+        kind_in(under, 0),
     ) {
         Settled::Inside(q) => Turned::Refuse {
             number: 13,
@@ -169,11 +171,11 @@ fn turn<'a>(
                     place: at,
                 };
             }
-            let target = word(under, 23);
+            let target = word_in(under, 23);
             Turned::Point {
                 to,
                 target,
-                kind: triple(under, 20),
+                kind: kind_in(under, 20),
                 due: lesser(due, target),
             }
         }
@@ -200,23 +202,12 @@ fn one_more(n: usize) -> usize
     n
 }
 
-// A class has fewer records than its total.
-fn is_short<'a>(totals: &'a [usize; 9], tally: &'a [usize; 9]) -> bool
-    ensures { λ r. ⌜ FewerIs (now (totals .entry)) (now (tally .entry)) r ⌝ }
-{
-    judge::arrival::is_short(totals, tally)
-}
-
 // Headers of the part are read ahead, as in the arrival judge: no answer depends on it.
 fn hint(part: &[u8], at: usize, base: usize, near: usize) -> usize {
     if at < base {
         return near;
     }
-    let from = at - base;
-    if part.len() < from {
-        return near;
-    }
-    look_ahead(part, from, near)
+    look_ahead(part, at - base, near)
 }
 
 // The records of a part, the first byte of which is byte `base` of what was fed.
@@ -227,6 +218,8 @@ fn walk(w: Watch, part: &[u8], base: usize) -> Fed
     let mut v = w;
     let len = base + part.len();
     let mut near: usize = 0;
+    // Once: a const array is copied where it is named.
+    let follow = record::follow::FOLLOW;
     while v.at < v.d {
         let d = v.d;
         let at = v.at;
@@ -237,6 +230,7 @@ fn walk(w: Watch, part: &[u8], base: usize) -> Fed
         let prev = v.prev;
         match turn(
             &v.under,
+            &follow,
             &v.totals,
             &v.tally,
             &v.starts,
@@ -286,9 +280,9 @@ fn walk(w: Watch, part: &[u8], base: usize) -> Fed
                 due,
             } => {
                 let n = v.tally[3];
-                v.starts[n] = at;
-                v.targets[n] = target;
-                v.kinds[n] = kind;
+                v.starts[n] = at as u32;
+                v.targets[n] = target as u32;
+                v.kinds[n] = kind as u32;
                 v.tally[3] += 1;
                 v.count += 1;
                 v.at = to;
@@ -300,7 +294,7 @@ fn walk(w: Watch, part: &[u8], base: usize) -> Fed
         }
     }
     let d = v.d;
-    if is_short(&v.totals, &v.tally) {
+    if is_fewer(&v.totals, &v.tally) {
         v.number = 15;
         v.place = d;
         return Fed {
@@ -361,7 +355,7 @@ fn start(w: Watch, part: &[u8]) -> Fed
             answer: Arrival::Waiting { count: 0, end: 0 },
         };
     }
-    let d = judge::arrival::size_of(&v.head);
+    let d = judge::parts::declared_size(&v.head);
     if is_part(3307, d) {
         v.number = 6;
         v.place = 3307;
@@ -370,8 +364,7 @@ fn start(w: Watch, part: &[u8]) -> Fed
             answer: refusal(6, 3307),
         };
     }
-    let mut totals = [0usize; 9];
-    judge::arrival::put_totals(&v.head, &mut totals);
+    let totals = judge::parts::totals_of(&v.head);
     v.totals = totals;
     v.tally = [0usize, 1, 0, 0, 0, 0, 0, 0, 0];
     v.have = 0;

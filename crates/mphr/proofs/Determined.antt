@@ -3,7 +3,9 @@
 use mathlib.Core.Path.{_≡_, refl}
 use mathlib.Core.Bool.{Bool}
 use mathlib.Core.List.{List, _++_}
-use Prim.Native.Nat.{ℕ, _+_}
+use Prim.Native.Nat.{ℕ, _+_, _<_}
+use native.Mathlib.Decide.{decLt}
+use native.Mathlib.Omega.{arith}
 use lib.Dec.{leb}
 use lib.ListN.{length, drop}
 use Rattle.calendar.specs.Said.{Said, answer, refusal, refusing}
@@ -15,7 +17,7 @@ use Rattle.meter.proofs.Determined.{unsaidWritten, written-back}
 use Rattle.meter.specs.General.{digitsOf, putGeneral}
 use Rattle.text.specs.Writing.{putNumber, putText}
 use Rattle.text.specs.declared.Number.{Number}
-use Rattle.mphr.specs.Layout.{nameOf, widthOf, kindOf, fieldOf, saidPlace}
+use Rattle.mphr.specs.Layout.{nameOf, widthOf, kindOf, fieldOf, saidPlace, LineAfter}
 use Rattle.mphr.specs.Lookup.{fieldNamed, saidField}
 use Rattle.mphr.specs.Lines.{isLong, textOn, numberOn, timeOn, putLine, writesLine, WritesLine, WritesTextLine, WritesNumberLine, WritesTimeLine, WritesName}
 use Rattle.mphr.specs.declared.layout.Place.{Place}
@@ -64,3 +66,14 @@ unique-write-name room k r s p q x y = (
   fixes saidWritten unsaidWritten written-back (writesLine room (length (nameOf k)) (leb k 71)) r s (x .0) (y .0),
   only (wrote room (length (nameOf k)) (leb k 71) (nameOf k ++ drop (length (nameOf k)) room)) p q (x .1) (y .1),
 )
+
+-- a line start that is the first after n, and no other
+pub unique-line-after : (n r s : ℕ) → LineAfter n r → LineAfter n s → r ≡ s
+unique-line-after n r s x y = go (decLt n 3307)
+  where
+    go : Dec (n < 3307) → r ≡ s
+    go (yes l) =
+        let f = x .first (y .start .0) (y .start .1) (omega (arith, y .after l, y .start .2)) in
+        let g = y .first (x .start .0) (x .start .1) (omega (arith, x .after l, x .start .2)) in
+        omega (arith, f, g, x .start .2, y .start .2)
+    go (no d) = omega (arith, x .none (omega (arith, d)), y .none (omega (arith, d)))

@@ -1,6 +1,7 @@
 -- The layout of the main product header (01, "MPHR, 3,307 bytes with its header": "72 lines, each: name padded with spaces to 30, `= `, the
 -- value, a line feed (value width plus 33)"; order, widths and kinds as 01 lists them there). Assumes nothing.
-use Prim.Native.Nat.{ℕ, zero, suc, _+_, _-_}
+use Prim.Native.Nat.{ℕ, zero, suc, _+_, _-_, _≤_, _<_}
+use mathlib.Core.Path.{_≡_}
 use Prim.Native.Char.{code}
 use Prim.Native.String as Str
 use Prim.Native.String.{String}
@@ -155,6 +156,13 @@ kindOf k = getD kinds k Text
 unfoldable pub lineStart : ℕ → ℕ
 lineStart zero = 20
 lineStart (suc k) = lineStart k + widthOf k + 33
+
+-- r is where the first line starts after byte n, the header's end counted as one; its end where none does
+pub record LineAfter (n r : ℕ) : Type 0 where
+  pub start : (k : ℕ) × (k ≤ 72) × (r ≡ lineStart k)
+  pub first : (k : ℕ) → k ≤ 72 → n < lineStart k → r ≤ lineStart k
+  pub after : n < 3307 → n < r
+  pub none : 3307 ≤ n → r ≡ 3307
 
 -- the starts of the lines of the given widths, from i on
 abbrev pub startsFrom : ℕ → List ℕ → List ℕ

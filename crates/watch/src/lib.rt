@@ -44,6 +44,7 @@ pub struct Watch {
     pub d: usize,
     pub due: usize,
     pub place: usize,
+    pub next: usize,
     pub prev: u8,
     pub number: u8,
 }
@@ -337,6 +338,15 @@ fn start(w: Watch, part: &[u8]) -> Fed
     let mut v = w;
     let base = v.got;
     let got = keep(&mut v.head, base, part);
+    // A fault of the main header is shown where a line ends: until then what has come is not judged again.
+    let next = v.next;
+    if got < next {
+        v.got = got;
+        return Fed {
+            watch: v,
+            answer: Arrival::Waiting { count: 0, end: 0 },
+        };
+    }
     match head_fault(&v.head, got) {
         HeaderFault::Refused(r) => {
             v.number = r.number;
@@ -350,6 +360,7 @@ fn start(w: Watch, part: &[u8]) -> Fed
     }
     v.got = got;
     if got < 3307 {
+        v.next = mphr::layout::line_after(got);
         return Fed {
             watch: v,
             answer: Arrival::Waiting { count: 0, end: 0 },
@@ -462,6 +473,7 @@ pub fn new() -> Watch
         d: 0,
         due: 0,
         place: 0,
+        next: 0,
         prev: 0,
         number: 0,
     }

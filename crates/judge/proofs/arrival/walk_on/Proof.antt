@@ -97,7 +97,7 @@ loop-holds c =
     )
 
 look-ahead-requires : tie.Need-look-ahead-requires Inv-loop μ-loop
-look-ahead-requires c κs = c .before .loop .inv .0 .come
+look-ahead-requires c κs = search needs
 
 slice-aggregate-passes : tie.Need-slice-aggregate-passes Inv-loop μ-loop
 slice-aggregate-passes c = search needs

@@ -21,7 +21,8 @@
  * WHAT COSTS WHAT. The judges read the main header's 3,307 bytes once, and of the other records the header and a pointer's 7 bytes alone, so a product
  * of 32 MiB in 100,000 records takes milliseconds. wl_record judges the arrival anew and walks to record k at each call: for all records of a product
  * ask wl_finished once and wl_read_header at each start. A field query judges the main header anew at each call, some microseconds; the ground point
- * twice. Nothing allocates, and no call keeps anything of an earlier one.
+ * twice. A part that is fed to a watch costs some 4 KiB of copying besides its records, so parts of a few KiB or more are best. Nothing allocates, and
+ * no call keeps anything of an earlier one but in the watch that it is lent.
  */
 #ifndef WARPLADLE_H
 #define WARPLADLE_H
@@ -58,7 +59,8 @@ enum wl_refusal {
     WL_OUTSIDE = 20,        /* the part to read is outside the lent bytes; their length */
     WL_MALFORMED = 21,      /* a number, time, date or header is malformed or outside our limits; 0 */
     WL_NO_FIELD = 22,       /* no such field, another kind, or a value that does not fit its line; 0 */
-    WL_LISTING_LIMIT = 23   /* a listing of more than 65,536 bytes; 65536 */
+    WL_LISTING_LIMIT = 23,  /* a listing of more than 65,536 bytes; 65536 */
+    WL_TOO_MANY_POINTERS = 24 /* a watch was fed a 65th pointer record; its start */
 };
 
 /* ---- sizes of the answers */
@@ -189,6 +191,28 @@ void wl_extent(const uint8_t *bytes, size_t len, uint64_t answer[4]);
 /* A finished product: 0, 0, the count of records, 0, with the records' starts at index[0] to index[count - 1] and the other places kept; or the
  * refusal 1 to 16, 17 with the length, or 18 with the count where `room`, the places of the index, is less. Lend none to learn the count. */
 void wl_finished(const uint8_t *bytes, size_t len, uint32_t *index, size_t room, uint64_t answer[4]);
+
+/* ---- the watch: a product that arrives in parts and is not kept */
+
+/* What is known of the bytes fed so far: the main header's 3,307, those of the record header under way, at most 64 pointers, and numbers; some 4,400
+ * bytes in all. Its fields are the library's own: make it with wl_watch_new, change it with wl_watch_feed alone, copy it as you like. A watch whose
+ * bytes came otherwise still ends each call safely, with some answer. */
+typedef struct wl_watch {
+    uint8_t head[3307], under[27];
+    uint32_t starts[64], targets[64], kinds[64];
+    uint64_t totals[9], tally[9];
+    uint64_t got, have, at, count, declared, due, place, next;
+    uint8_t previous, number;
+} wl_watch;
+
+/* A watch that was fed nothing. */
+void wl_watch_new(wl_watch *watch);
+
+/* The next part, of any length: what wl_arrival says of all that was fed so far, however it was cut (0, the end of the last whole record, the count of
+ * whole records, 0; or the refusal 1 to 16); or 24 with its start at the 65th pointer record, which comes after 12 and before 13 where both are
+ * shown. A part of no bytes changes nothing; after a refusal every part is answered with it again. The bytes of a record beyond its header are
+ * counted, not looked at. */
+void wl_watch_feed(wl_watch *watch, const uint8_t *part, size_t len, uint64_t answer[4]);
 
 /* ---- the queries of a product, arriving or whole */
 

@@ -81,8 +81,8 @@ pub(crate) fn may_follow(follow: &[[bool; 8]; 8], last: u8, class: u8) -> bool
     follow[(last - 1) as usize][(class - 1) as usize]
 }
 
-// The lowest number of the faults that the header at byte `at` of s shows by itself, of whose product `left` bytes are left from its start on;
-// 6 where 1 to 19 bytes are left after its 20, or 12 for none. The bytes may be a whole arrival's, or the header's alone.
+// The lowest number of the faults that the header at byte `at` of s shows by itself, of whose product `left` bytes are left from its
+// start on; 6 where 1 to 19 bytes are left after its 20, or 12 for none. The bytes may be a whole arrival's, or the header's alone.
 pub(crate) fn rank_in(
     s: &[u8],
     follow: &[[bool; 8]; 8],

@@ -1,5 +1,5 @@
-// What the walk over a whole arrival asks, for a walk that holds the main header, one record's header and numbers alone (request One's watch). Each
-// takes any bytes and numbers and ends; what it promises, it promises of those that such a walk comes to.
+// What the walk over a whole arrival asks, for a walk that holds the main header, one record's header and numbers alone (request One's
+// watch). Each takes any bytes and numbers and ends; what it promises, it promises of those that such a walk comes to.
 use crate::arrival::count_at;
 use crate::arrival::is_short;
 use crate::arrival::put_totals;
@@ -18,8 +18,8 @@ ghost use Rattle.mphr.specs.Table.{declared};
 ghost use Rattle.judge.specs.Step.{RankIs};
 ghost use Rattle.judge.specs.Turning.{Begun, Totals, FewerIs};
 
-// The lowest number of the faults that a header shows by itself, as `rank_in` has it, where a record of the class `prev` is before it and the table is
-// the rule.
+// The lowest number of the faults that a header shows by itself, as `rank_in` has it, where a record of the class `prev` is before it
+// and the table is the rule.
 pub fn header_rank<'a>(
     under: &'a [u8; 27],
     follow: &'a [[bool; 8]; 8],
@@ -28,7 +28,8 @@ pub fn header_rank<'a>(
     left: usize,
     prev: u8,
 ) -> u8
-    ensures { λ r. ⌜ (isClass prev ≡ true → Ruled (now (follow .entry)) → RankIs (now (under .entry)) 0 left prev (now (totals .entry)) (now (tally .entry)) r) ⌝ }
+    ensures { λ r. ⌜ (isClass prev ≡ true → Ruled (now (follow .entry))
+        → RankIs (now (under .entry)) 0 left prev (now (totals .entry)) (now (tally .entry)) r) ⌝ }
 {
     if !record::header::is_class(prev) {
         return 12;

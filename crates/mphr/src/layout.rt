@@ -359,7 +359,8 @@ pub(crate) fn width(k: usize) -> usize
     width_at(&table, k)
 }
 
-// Where the first line starts after byte n, the header's end counted as one; its end where none does. No fault of the header is shown between.
+// Where the first line starts after byte n, the header's end counted as one; its end where none does. No fault of the header is
+// shown between.
 pub fn line_after(n: usize) -> usize
     ensures { λ r. ⌜ LineAfter n r ⌝ }
 {

@@ -107,7 +107,8 @@ fn turn<'a>(
     prev: u8,
 ) -> Turned
     requires { ⌜ (at ≤ d) × (d ≤ 2147483647) × (getD (now tally) 3 0 ≤ 64) × (isClass prev ≡ true) × Ruled (now follow) ⌝ }
-    ensures { λ r. ⌜ TurnIs (now (under .entry)) (now (totals .entry)) (now (tally .entry)) (now (starts .entry)) (now (targets .entry)) (now (kinds .entry)) have len d at due prev r ⌝ }
+    ensures { λ r. ⌜ TurnIs (now (under .entry)) (now (totals .entry)) (now (tally .entry))
+        (now (starts .entry)) (now (targets .entry)) (now (kinds .entry)) have len d at due prev r ⌝ }
 {
     if have < 20 {
         return Turned::Wait;

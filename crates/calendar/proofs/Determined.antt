@@ -8,7 +8,7 @@ use Rattle.calendar.specs.declared.Date.{Date}
 use Rattle.calendar.specs.declared.DayNumber.{DayNumber}
 use Rattle.calendar.specs.declared.DayNumber.the-variants as D
 use Rattle.calendar.specs.Said.{Said, answer, refusal, refusing}
-use Rattle.calendar.specs.Calendar.{isDate, dateOf, dayNumberOf, saidDay}
+use Rattle.calendar.specs.Calendar.{isDate, leapDay, leapDate, dateOf, dayNumberOf, saidDay}
 
 pub fixes : {R A : Type 0} (said : R → Said A) (unsaid : Said A → R) → ((r : R) → unsaid (said r) ≡ r) → (x : Said A) (r s : R) → said r ≡ x → said s ≡ x → r ≡ s
 fixes said unsaid back x r s p q = sym (back r) ∙ ap unsaid (p ∙ sym q) ∙ back s
@@ -29,6 +29,12 @@ unique-day-number x r s p q = fixes saidDay unsaidDay day-back (dayNumberOf x) r
 
 pub unique-is-date : (x : Date) (r s : Bool) → r ≡ isDate x → s ≡ isDate x → r ≡ s
 unique-is-date x r s p q = only (isDate x) r s p q
+
+pub unique-is-leap-day : (n : ℕ) (r s : Bool) → r ≡ leapDay n → s ≡ leapDay n → r ≡ s
+unique-is-leap-day n r s p q = only (leapDay n) r s p q
+
+pub unique-is-leap-date : (x : Date) (r s : Bool) → r ≡ leapDate x → s ≡ leapDate x → r ≡ s
+unique-is-leap-date x r s p q = only (leapDate x) r s p q
 
 pub unique-date-of : (n : ℕ) (r s : Date) → r ≡ dateOf n → s ≡ dateOf n → r ≡ s
 unique-date-of n r s p q = only (dateOf n) r s p q

@@ -56,6 +56,13 @@ hasDay x = isDate x && (leb 2000 (x .year) && leb (daysTo x) 65535)
 abbrev pub dayNumberOf : Date → Said ℕ
 dayNumberOf x = cond (hasDay x) (answer (daysTo x)) (refusal 21 0)
 
+-- the days that end in a leap second (02, request Two: "days 2191, 3287, 4564, 5659 and 6209"), and the dates of these days
+unfoldable pub leapDay : ℕ → Bool
+leapDay n = eqb n 2191 || (eqb n 3287 || (eqb n 4564 || (eqb n 5659 || eqb n 6209)))
+
+unfoldable pub leapDate : Date → Bool
+leapDate x = hasDay x && leapDay (daysTo x)
+
 -- what an answer says
 abbrev pub saidDay : DayNumber → Said ℕ
 saidDay (D.Day n) = answer n

@@ -1,7 +1,7 @@
 // Dates of the Gregorian calendar, years 0000 to 9999, and their day numbers, 0 to 65535 from 1 January 2000.
 ghost use mathlib.Core.Path.{_≡_};
 ghost use Prim.Native.Nat.{_≤_, _<_};
-ghost use Rattle.calendar.specs.Calendar.{leap, daysIn, isDate, dateOf, dayNumberOf, saidDay};
+ghost use Rattle.calendar.specs.Calendar.{leap, daysIn, isDate, dateOf, dayNumberOf, saidDay, leapDay, leapDate};
 ghost use Rattle.calendar.specs.Closed.{layoutOf, monthAt, startOf, shiftOf, closedNumber};
 
 // Why nothing else is answered: the paper's number, and the place that goes with it.
@@ -182,4 +182,33 @@ pub fn day_number(date: Date) -> DayNumber
         });
     }
     DayNumber::Day(n as u16)
+}
+
+// Whether the day ends in a leap second.
+pub fn is_leap_day(day: u16) -> bool
+    ensures { λ r. ⌜ r ≡ leapDay day ⌝ }
+{
+    if day == 2191 {
+        return true;
+    }
+    if day == 3287 {
+        return true;
+    }
+    if day == 4564 {
+        return true;
+    }
+    if day == 5659 {
+        return true;
+    }
+    day == 6209
+}
+
+// Whether the day of the date does.
+pub fn is_leap_date(date: Date) -> bool
+    ensures { λ r. ⌜ r ≡ leapDate date ⌝ }
+{
+    match day_number(date) {
+        DayNumber::Day(n) => is_leap_day(n),
+        DayNumber::Refused(_) => false,
+    }
 }

@@ -1,5 +1,6 @@
 -- Times that stand for sure: their milliseconds are such as every day has, or they are undefined, and as numbers of 48 bits, of which an
 -- undefined time is the greatest, the first is not above the second. By the day and the millisecond of each. Assumes nothing.
+use Rattle.calendar.specs.Calendar.{leapDay}
 use mathlib.Core.Path.{_≡_, refl, sym, ap, _∙_}
 use mathlib.Core.Bool.{Bool, true, false, cond, not, _&&_}
 use mathlib.Core.Logic.{_⊎_, inl, inr}
@@ -26,7 +27,11 @@ bits day ms = day * 0x1_0000_0000 + ms
 -- each day goes on to 86,399,999 at least
 pub every-day : (day : ℕ) → 86399999 ≤ lastMilli day
 unfolding lastMilli
-every-day day = omega arith
+every-day day = go (leapDay day)
+  where
+    go : (b : Bool) → 86399999 ≤ cond b 86400999 86399999
+    go true = omega arith
+    go false = omega arith
 
 module _ (day ms next : ℕ) (e : next ≡ (ms + 1) % 2 ^ 32) (f : ms < 4294967296) where
   pub sure-milli : next ≤ 86400000 → (next ≡ 0 → ⊥) → isTime (timeOf (bits day ms)) ≡ true

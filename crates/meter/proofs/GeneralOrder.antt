@@ -1,6 +1,7 @@
 -- The order of times agrees with the order of their texts: the 17 digits of a text are one number, the date's key and then the clock's,
 -- which grows with the day and with the millisecond; and of two numbers of as many digits the less has the lesser digit where they
 -- first differ. Assumes nothing.
+use Rattle.meter.proofs.TimeLaws.{last-most}
 use mathlib.Core.Path.{_≡_, refl, sym, ap, _∙_}
 use mathlib.Core.Bool.{Bool, true, false, cond}
 use mathlib.Core.Logic.{_⊎_, inl, inr}
@@ -16,7 +17,7 @@ use Rattle.calendar.proofs.Dates.{key, ordered}
 use Rattle.meter.specs.Time.{lastMilli, orderOf}
 use Rattle.meter.specs.declared.time.Order.the-variants as O
 use Rattle.meter.specs.declared.time.Time.the-variants as T
-use Rattle.meter.specs.General.{numberOf, momentAt, putMoment, putGeneral, momentOf, generalOf}
+use Rattle.meter.specs.General.{numberOf, momentAt, putMoment, putGeneral, momentOf, generalOf, minuteOf}
 use Rattle.meter.proofs.GeneralRuns.{Digits, digits-same, whole-is, wholeOf}
 use Rattle.meter.proofs.GeneralWrite.{moment-bounds, moment-digits, moment-zed, moment-back}
 use Rattle.meter.proofs.GeneralTime.{moment-valid, text-same}
@@ -67,17 +68,17 @@ number-before a b (suc n) f g l =
     before-step a b n f g l (decLt (numberOf a 0 n) (numberOf b 0 n)) (number-before a b n (λ j h. f j (omega arith)) (λ j h. g j (omega arith)))
 
 -- ---- the number of a text grows with its time
-whole-of : (d m : ℕ) → wholeOf (momentOf d m) ≡ key (dateOf d) * 1000000000 + (m + 40000 * (m / 60000) + 4000000 * (m / 3600000))
+whole-of : (d m : ℕ) → wholeOf (momentOf d m) ≡ key (dateOf d) * 1000000000 + (m + 40000 * minuteOf m + 4000000 * (minuteOf m / 60))
 unfolding momentOf
 whole-of d m = omega arith
 
-clock-small : (m : ℕ) → m ≤ 86399999 → m + 40000 * (m / 60000) + 4000000 * (m / 3600000) < 1000000000
+clock-small : (m : ℕ) → m ≤ 86400999 → m + 40000 * minuteOf m + 4000000 * (minuteOf m / 60) < 1000000000
 clock-small m h = omega arith
 
-clock-grows : (m k : ℕ) → m < k → m + 40000 * (m / 60000) + 4000000 * (m / 3600000) < k + 40000 * (k / 60000) + 4000000 * (k / 3600000)
+clock-grows : (m k : ℕ) → m < k → m + 40000 * minuteOf m + 4000000 * (minuteOf m / 60) < k + 40000 * minuteOf k + 4000000 * (minuteOf k / 60)
 clock-grows m k h =
-    let p : m / 60000 ≤ k / 60000 = omega arith in
-    let q : m / 3600000 ≤ k / 3600000 = omega arith in
+    let p : minuteOf m ≤ minuteOf k = omega arith in
+    let q : minuteOf m / 60 ≤ minuteOf k / 60 = omega arith in
     omega arith
 
 -- by day, then by millisecond
@@ -85,8 +86,7 @@ abbrev pub Earlier : ℕ → ℕ → ℕ → ℕ → Type 0
 Earlier d m e k = (d < e) ⊎ ((d ≡ e) × (m < k))
 
 whole-less : (d m e k : ℕ) → m ≤ lastMilli d → k ≤ lastMilli e → Earlier d m e k → wholeOf (momentOf d m) < wholeOf (momentOf e k)
-unfolding lastMilli
-whole-less d m e k h l (inl w) = omega (arith, whole-of d m, whole-of e k, clock-small m h, ordered d e w)
+whole-less d m e k h l (inl w) = omega (arith, whole-of d m, whole-of e k, clock-small m (omega (arith, h, last-most d)), ordered d e w)
 whole-less d m e k h l (inr (w, v)) = omega (arith, whole-of d m, whole-of e k, clock-grows m k v, ap (λ (n : ℕ). key (dateOf n)) w)
 
 -- ---- THE ORDER

@@ -4,15 +4,15 @@
 use mathlib.Core.Path.{_≡_, refl, sym, ap, _∙_}
 use mathlib.Core.Bool.{Bool, true, false, cond, _&&_, _||_}
 use mathlib.Core.List.{List}
-use Prim.Native.Nat.{ℕ, _+_, _/_, _%_, _≤_, _<_}
+use Prim.Native.Nat.{ℕ, _+_, _/_, _%_, _≤_, _<_, _-_, _*_}
 use native.Mathlib.Decide.{decLt}
 use native.Mathlib.Omega.{arith}
-use borrow.Author.Tests.{le-leb, leb-true, eqb-true}
-use lib.Dec.{leb}
+use borrow.Author.Tests.{le-leb, leb-true, eqb-true, eq-eqb}
+use lib.Dec.{leb, eqb}
 use lib.ListN.{length, getD}
 use Rattle.calendar.specs.Said.{Said, answer, refusal}
 use Rattle.calendar.specs.declared.Date.{Date}
-use Rattle.calendar.specs.Calendar.{isDate, dateOf, daysTo, hasDay}
+use Rattle.calendar.specs.Calendar.{isDate, dateOf, daysTo, hasDay, leapDay, leapDate}
 use Rattle.calendar.proofs.Dates.{date-number, number-date, date-valid, has-day, year-low}
 use Rattle.meter.specs.Lent.{inside, writes, wrote}
 use Rattle.meter.specs.Time.{lastMilli, isMilli, isTime}
@@ -21,7 +21,7 @@ use Rattle.meter.specs.declared.time.Time.the-variants as T
 use Rattle.meter.specs.declared.general.Moment.{Moment}
 use Rattle.meter.specs.declared.general.General.{General}
 use Rattle.meter.specs.declared.general.General.the-variants as G
-use Rattle.meter.specs.General.{each, isNone, isDigits, momentAt, lastSecond, isMoment, putMoment, putGeneral, fitsGeneral, momentOf, milliOf, generalOf, timeOfGeneral, hasTime, textTimeAt}
+use Rattle.meter.specs.General.{each, isNone, isDigits, momentAt, lastSecond, isMoment, putMoment, putGeneral, fitsGeneral, momentOf, milliOf, generalOf, timeOfGeneral, hasTime, textTimeAt, minuteOf}
 use Rattle.meter.proofs.GeneralRuns.{and-true, Digits, each-in, digits-same, whole-is, wholeOf}
 use Rattle.meter.proofs.GeneralWrite.{Bounds, moment-bounds, moment-digits, moment-zed, moment-back, general-back}
 use Rattle.meter.proofs.GeneralCode.{text-answer}
@@ -34,20 +34,43 @@ milli-back d m = omega arith
 
 pub moment-of-milli : (t : Moment) (d : ℕ) → Bounds t → dateOf d ≡ t .date → momentOf d (milliOf t) ≡ t
 unfolding milliOf momentOf
-moment-of-milli t d b e = same e (omega (arith, b)) (omega (arith, b)) (omega (arith, b)) (omega (arith, b))
+moment-of-milli t d b e = same e (omega (arith, minute)) (omega (arith, minute)) (omega (arith, minute)) (omega (arith, b))
   where
+    -- the minute of the day, also in the extra second
+    minute : minuteOf (milliOf t) ≡ t .hour * 60 + t .minute
+    minute = elim (decLt 59 (t .second)) [ yes l ↦ omega (arith, b, b .extra l) | no l ↦ omega (arith, b, l) ]
+
     same : {x : Date} {h m s k : ℕ} → x ≡ t .date → h ≡ t .hour → m ≡ t .minute → s ≡ t .second → k ≡ t .milli → _≡_ {A = Moment} (record { date = x; hour = h; minute = m; second = s; milli = k }) t
     same ex eh em es ek = rw (ex, eh, em, es, ek)
 
 -- a millisecond of a day is a moment
+-- its second is one of its minute: the 60th where the millisecond is past those of other days
+leap-second : (d m : ℕ) → d < 65536 → m ≤ lastMilli d → m / 1000 - 60 * minuteOf m ≤ lastSecond (dateOf d) (minuteOf m / 60) (minuteOf m % 60)
+unfolding lastSecond lastMilli leapDate
+leap-second d m l h = go (decLt m 86400000) (leapDay d) refl h
+  where
+    date-leap : leapDay d ≡ true → (hasDay (dateOf d) && leapDay (daysTo (dateOf d))) ≡ true
+    date-leap e = rw (has-day (dateOf d) (date-valid d l) (year-low d) (omega (arith, number-date d)), number-date d) e
+
+    least : (b : Bool) → 59 ≤ cond b 60 59
+    least true = omega arith
+    least false = omega arith
+
+    go : Dec (m < 86400000) → (b : Bool) → leapDay d ≡ b → m ≤ cond b 86400999 86399999 → m / 1000 - 60 * minuteOf m ≤ cond (eqb (minuteOf m / 60) 23 && (eqb (minuteOf m % 60) 59 && (hasDay (dateOf d) && leapDay (daysTo (dateOf d))))) 60 59
+    go (yes k) b e h = omega (arith, least (eqb (minuteOf m / 60) 23 && (eqb (minuteOf m % 60) 59 && (hasDay (dateOf d) && leapDay (daysTo (dateOf d))))))
+    go (no k) false e h = absurd (omega (arith, k))
+    go (no k) true e h =
+        let q : minuteOf m ≡ 1439 = omega (arith, k) in
+        rw (eq-eqb (minuteOf m / 60) 23 (omega arith), eq-eqb (minuteOf m % 60) 59 (omega arith), date-leap e) (omega arith)
+
 pub moment-valid : (d m : ℕ) → d < 65536 → m ≤ lastMilli d → isMoment (momentOf d m) ≡ true
-unfolding isMoment momentOf lastSecond lastMilli
+unfolding isMoment momentOf
 moment-valid d m l h =
     rw (
       date-valid d l,
-      le-leb (m / 3600000) 23 (omega arith),
-      le-leb (m / 60000 % 60) 59 (omega arith),
-      le-leb (m / 1000 % 60) 59 (omega arith),
+      le-leb (minuteOf m / 60) 23 (omega arith),
+      le-leb (minuteOf m % 60) 59 (omega arith),
+      le-leb (m / 1000 - 60 * minuteOf m) (lastSecond (dateOf d) (minuteOf m / 60) (minuteOf m % 60)) (leap-second d m l h),
       le-leb (m % 1000) 999 (omega arith),
     )
 

@@ -1,18 +1,18 @@
 -- What is written: n digits of a number, n times x, a moment, a general time. Only the bytes 0 to n change, and what was written reads
 -- back, in the short form and in the long one (14 and 17 digits: one proof over n). By induction on the digits. Assumes nothing.
 use mathlib.Core.Path.{_≡_, refl, sym, _∙_}
-use mathlib.Core.Bool.{Bool, true, false, _&&_}
+use mathlib.Core.Bool.{Bool, true, false, _&&_, cond}
 use mathlib.Core.List.{List, [], _∷_}
 use Prim.Native.Nat.{ℕ, zero, suc, _+_, _-_, _/_, _%_, _^_, _≤_, _<_}
 use native.Mathlib.Nat.{pow-suc, not-suc-le-zero}
 use native.Mathlib.Decide.{decLt}
 use native.Mathlib.Omega.{arith}
 use borrow.Author.Tests.{eq-eqb, le-leb, leb-true, eqb-true}
-use lib.Dec.{leb}
+use lib.Dec.{leb, eqb}
 use lib.ListN.{length, getD, set, length-set}
 use lib.Seq.{getD-set-same, getD-set-other}
 use Rattle.calendar.specs.Said.{answer}
-use Rattle.calendar.specs.Calendar.{isDate}
+use Rattle.calendar.specs.Calendar.{isDate, leapDate}
 use Rattle.calendar.specs.declared.Date.{Date}
 use Rattle.calendar.proofs.Dates.{valid, valid-day}
 use Rattle.meter.specs.Lent.{reads}
@@ -176,20 +176,33 @@ pub record Bounds (t : Moment) : Type 0 where
   pub day : t .date .day ≤ 31
   pub hour : t .hour ≤ 23
   pub minute : t .minute ≤ 59
-  pub second : t .second ≤ 59
+  pub second : t .second ≤ 60
+  pub extra : 59 < t .second → (t .hour ≡ 23) × (t .minute ≡ 59)
   pub milli : t .milli ≤ 999
 
 date-year : (x : Date) → isDate x ≡ true → x .year ≤ 9999
 unfolding isDate
 date-year x e = leb-true (x .year) 9999 (and-true (leb (x .year) 9999) _ e .0)
 
+-- the 60th second is at 23:59 alone
+last-second : (x : Date) (h m s : ℕ) → s ≤ lastSecond x h m → (s ≤ 60) × (59 < s → (h ≡ 23) × (m ≡ 59))
+unfolding lastSecond
+last-second x h m s l = go (eqb h 23) refl (eqb m 59) refl (leapDate x) l
+  where
+    go : (p : Bool) → eqb h 23 ≡ p → (q : Bool) → eqb m 59 ≡ q → (r : Bool) → s ≤ cond (p && (q && r)) 60 59 → (s ≤ 60) × (59 < s → (h ≡ 23) × (m ≡ 59))
+    go true e true f true l = (l, λ _. (eqb-true h 23 e, eqb-true m 59 f))
+    go true e true f false l = (omega arith, λ g. absurd (omega arith))
+    go true e false f r l = (omega arith, λ g. absurd (omega arith))
+    go false e q f r l = (omega arith, λ g. absurd (omega arith))
+
 pub moment-bounds : (t : Moment) → isMoment t ≡ true → Bounds t
-unfolding isMoment lastSecond
+unfolding isMoment
 moment-bounds t e =
     let u = and-true (isDate (t .date)) _ e in
     let h = and-true (leb (t .hour) 23) _ (u .1) in
     let m = and-true (leb (t .minute) 59) _ (h .1) in
-    let s = and-true (leb (t .second) 59) _ (m .1) in
+    let s = and-true (leb (t .second) (lastSecond (t .date) (t .hour) (t .minute))) _ (m .1) in
+    let z = last-second (t .date) (t .hour) (t .minute) (t .second) (leb-true (t .second) _ (s .0)) in
     let x = valid (t .date) (u .0) in
     record {
       year = date-year (t .date) (u .0);
@@ -197,7 +210,8 @@ moment-bounds t e =
       day = valid-day (t .date) x;
       hour = leb-true (t .hour) 23 (h .0);
       minute = leb-true (t .minute) 59 (m .0);
-      second = leb-true (t .second) 59 (s .0);
+      second = z .0;
+      extra = z .1;
       milli = leb-true (t .milli) 999 (s .1);
     }
 

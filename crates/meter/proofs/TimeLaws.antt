@@ -1,5 +1,6 @@
 -- The laws of short CDS times: what 48 bits stand for, and that a time that is written reads back. By the division of the bits into
 -- 16 and 32. Assumes nothing.
+use Rattle.calendar.specs.Calendar.{leapDay}
 use mathlib.Core.Path.{_≡_, refl, sym, ap, _∙_}
 use mathlib.Core.Bool.{Bool, true, false, cond}
 use mathlib.Core.List.{List}
@@ -30,9 +31,21 @@ time-read a at t i e =
     ∙ ap (λ (u : Time). cond (isTime u) (answer u) (refusal 21 0)) e
 
 -- the greatest millisecond is below the 32 bits that are all one, so a time that is defined never looks undefined
-pub milli-small : (day ms : ℕ) → isMilli day ms ≡ true → ms < 0xffff_ffff
+pub last-most : (day : ℕ) → lastMilli day ≤ 86400999
 unfolding lastMilli
-milli-small day ms e = omega (arith, leb-true ms 86399999 e)
+last-most day = go (leapDay day)
+  where
+    go : (b : Bool) → cond b 86400999 86399999 ≤ 86400999
+    go true = omega arith
+    go false = omega arith
+
+-- "A day outside the five keeps its limit"
+pub other-day : (day : ℕ) → leapDay day ≡ false → lastMilli day ≡ 86399999
+unfolding lastMilli
+other-day day e = rw e
+
+pub milli-small : (day ms : ℕ) → isMilli day ms ≡ true → ms < 0xffff_ffff
+milli-small day ms e = omega (arith, leb-true ms (lastMilli day) e, last-most day)
 
 -- a time that can be written: its day is of 16 bits
 abbrev pub Writable : Time → Type 0

@@ -1,12 +1,12 @@
 -- Generalised times (01, "MPHR": "A time is YYYYMMDDHHMMSSZ, with three millisecond digits before Z when long; Gregorian calendar,
 -- years 0000 to 9999, seconds 00..59"; 002, 2.2.2.1 and 2.2.2.2, for the undefined spelling). Assumes nothing.
-use Prim.Native.Nat.{ℕ, zero, suc, _+_, _-_, _*_, _/_, _%_}
+use Prim.Native.Nat.{ℕ, zero, suc, _+_, _-_, _*_, _/_, _%_, min}
 use mathlib.Core.Bool.{Bool, true, false, cond, _&&_, _||_}
 use mathlib.Core.List.{List}
 use lib.Dec.{eqb, leb}
 use lib.ListN.{getD, set}
 use Rattle.calendar.specs.Said.{Said, answer, refusal, refused}
-use Rattle.calendar.specs.Calendar.{date, isDate, dateOf, daysTo, hasDay}
+use Rattle.calendar.specs.Calendar.{date, isDate, dateOf, daysTo, hasDay, leapDate}
 use Rattle.calendar.specs.declared.Date.{Date}
 use Rattle.meter.specs.declared.integer.Written.{Written}
 use Rattle.meter.specs.Time.{isTime}
@@ -63,9 +63,9 @@ momentAt n a i =
       milli = numberOf a (i + 14) (n - 14);
     }
 
--- the greatest second of a minute
+-- the greatest second of a minute (02, request Two: "a written time may carry second 60 at 23:59 of those dates")
 unfoldable pub lastSecond : Date → ℕ → ℕ → ℕ
-lastSecond x hour minute = 59
+lastSecond x hour minute = cond (eqb hour 23 && (eqb minute 59 && leapDate x)) 60 59
 
 -- a moment of the calendar
 unfoldable pub isMoment : Moment → Bool
@@ -134,8 +134,13 @@ fitsGeneral long G.Undefined = true
 fitsGeneral long (G.At t) = isMoment t && (long || eqb (t .milli) 0)
 
 -- ---- a day and millisecond, and the moment that they are
+-- the minute of the day; the extra second is in the last one
+abbrev pub minuteOf : ℕ → ℕ
+minuteOf ms = min (ms / 60000) 1439
+
 unfoldable pub momentOf : ℕ → ℕ → Moment
-momentOf day ms = record { date = dateOf day; hour = ms / 3600000; minute = ms / 60000 % 60; second = ms / 1000 % 60; milli = ms % 1000 }
+momentOf day ms =
+    record { date = dateOf day; hour = minuteOf ms / 60; minute = minuteOf ms % 60; second = ms / 1000 - 60 * minuteOf ms; milli = ms % 1000 }
 
 unfoldable pub milliOf : Moment → ℕ
 milliOf t = ((t .hour * 60 + t .minute) * 60 + t .second) * 1000 + t .milli

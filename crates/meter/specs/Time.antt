@@ -4,6 +4,7 @@ use Prim.Native.Nat.{ℕ, _+_, _*_, _/_, _%_}
 use mathlib.Core.Bool.{Bool, true, false, cond, _&&_}
 use mathlib.Core.List.{List}
 use lib.Dec.{eqb, ltb, leb}
+use Rattle.calendar.specs.Calendar.{leapDay}
 use Rattle.calendar.specs.Said.{Said, answer, refusal, refused}
 use Rattle.meter.specs.declared.integer.Written.{Written}
 use Rattle.meter.specs.Lent.{reads, Writes}
@@ -17,9 +18,10 @@ use Rattle.meter.specs.declared.time.Order.the-variants as O
 use Rattle.meter.specs.declared.time.TimeOrder.{TimeOrder}
 use Rattle.meter.specs.declared.time.TimeOrder.the-variants as C
 
--- the greatest millisecond of a day
+-- the greatest millisecond of a day (02, request Two: on the five days "the millisecond may go up to 86,400,999"; "A day outside the five keeps its
+-- limit")
 unfoldable pub lastMilli : ℕ → ℕ
-lastMilli day = 86399999
+lastMilli day = cond (leapDay day) 86400999 86399999
 
 abbrev pub isMilli : ℕ → ℕ → Bool
 isMilli day ms = leb ms (lastMilli day)

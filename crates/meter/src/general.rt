@@ -14,7 +14,7 @@ ghost use Rattle.meter.specs.Time.{isTime, isMilli, saidTime};
 ghost use Rattle.meter.specs.General.{digitsOf, runOf, numberOf, isNone, isDigits, momentAt, lastSecond, isMoment};
 ghost use Rattle.meter.specs.General.{generalReadAt, saidGeneral, fitsGeneral, WritesGeneral};
 ghost use Rattle.meter.specs.General.{putDigits, putNone, putMoment, putGeneral};
-ghost use Rattle.meter.specs.General.{momentOf, milliOf, generalOf, timeOfMoment, textTimeAt, WritesText};
+ghost use Rattle.meter.specs.General.{minuteOf, momentOf, milliOf, generalOf, timeOfMoment, textTimeAt, WritesText};
 
 pub struct Moment {
     pub date: Date,
@@ -121,10 +121,16 @@ fn moment_at(bytes: &[u8], at: usize, n: usize) -> Moment
 }
 
 // The greatest second of a minute.
-fn last_second(_date: Date, _hour: u8, _minute: u8) -> u8
-    ensures { λ r. ⌜ r ≡ lastSecond «_date» «_hour» «_minute» ⌝ }
+fn last_second(date: Date, hour: u8, minute: u8) -> u8
+    ensures { λ r. ⌜ r ≡ lastSecond date hour minute ⌝ }
 {
-    59
+    if hour != 23 {
+        return 59;
+    }
+    if minute != 59 {
+        return 59;
+    }
+    if calendar::is_leap_date(date) { 60 } else { 59 }
 }
 
 fn is_moment(t: Moment) -> bool
@@ -265,15 +271,24 @@ pub fn write_general(room: &mut [u8], long: bool, time: General) -> Written
     Written::Bytes(n + 1)
 }
 
+// The minute of the day; the extra second of a day that has one is in the last.
+fn minute_of(milli: u32) -> u32
+    ensures { λ r. ⌜ r ≡ minuteOf milli ⌝ }
+{
+    let minutes = milli / 60_000;
+    if minutes < 1439 { minutes } else { 1439 }
+}
+
 fn moment_of(day: u16, milli: u32) -> Moment
     requires { ⌜ isMilli day milli ≡ true ⌝ }
     ensures { λ r. ⌜ r ≡ momentOf day milli ⌝ }
 {
+    let minutes = minute_of(milli);
     Moment {
         date: calendar::date_of(day),
-        hour: (milli / 3_600_000) as u8,
-        minute: (milli / 60_000 % 60) as u8,
-        second: (milli / 1000 % 60) as u8,
+        hour: (minutes / 60) as u8,
+        minute: (minutes % 60) as u8,
+        second: (milli / 1000 - 60 * minutes) as u8,
         milli: (milli % 1000) as u16,
     }
 }

@@ -30,10 +30,14 @@ pub enum TimeOrder {
 const UNDEFINED: u64 = 0xffff_ffff_ffff;
 
 // The greatest millisecond of a day.
-pub(crate) fn last_milli(_day: u16) -> u32
-    ensures { λ r. ⌜ r ≡ lastMilli «_day» ⌝ }
+pub(crate) fn last_milli(day: u16) -> u32
+    ensures { λ r. ⌜ r ≡ lastMilli day ⌝ }
 {
-    86_399_999
+    if calendar::is_leap_day(day) {
+        86_400_999
+    } else {
+        86_399_999
+    }
 }
 
 pub(crate) fn is_milli(day: u16, milli: u32) -> bool

@@ -103,7 +103,7 @@ module _ (a : List ℕ) (i w : ℕ) where
 -- ---- times of n digits, 14 or 17
 module _ (n : ℕ) (a : List ℕ) (i : ℕ) where
   time-means : isDigits n a i && isMoment (momentAt n a i) ≡ true → TimeIn n a i
-  unfolding isDigits momentAt isMoment lastSecond isDate
+  unfolding isDigits momentAt isMoment isDate
   time-means e =
       let u = and-true (isDigits n a i) _ e in
       let v = and-true (each 48 57 a i n) _ (u .0) in
@@ -112,7 +112,7 @@ module _ (n : ℕ) (a : List ℕ) (i : ℕ) where
       let m = and-true (within 1 12 (numberOf a (i + 4) 2)) _ (c .1) in
       let y = and-true (leb (numberOf a (i + 8) 2) 23) _ (x .1) in
       let z = and-true (leb (numberOf a (i + 10) 2) 59) _ (y .1) in
-      let s = and-true (leb (numberOf a (i + 12) 2) 59) _ (z .1) in
+      let s = and-true (leb (numberOf a (i + 12) 2) (lastSecond (date (numberOf a i 4) (numberOf a (i + 4) 2) (numberOf a (i + 6) 2)) (numberOf a (i + 8) 2) (numberOf a (i + 10) 2))) _ (z .1) in
       record {
         digits = each-in 48 57 a i n (v .0);
         zed = eqb-true _ _ (v .1);
@@ -128,7 +128,7 @@ module _ (n : ℕ) (a : List ℕ) (i : ℕ) where
   means-digits t = rw (in-each 48 57 a i n (t .digits), eq-eqb (getD a (i + n) 0) 90 (t .zed))
 
   means-time : 14 ≤ n → n ≤ 17 → TimeIn n a i → isDigits n a i && isMoment (momentAt n a i) ≡ true
-  unfolding momentAt isMoment lastSecond isDate
+  unfolding momentAt isMoment isDate
   means-time l h t =
       let d = means-digits t in
       let y : numberOf a i 4 ≤ 9999 = omega (arith, part-small n a i i 4 4 d (omega arith) (omega arith) (omega arith)) in
@@ -140,7 +140,7 @@ module _ (n : ℕ) (a : List ℕ) (i : ℕ) where
         inside 1 (daysIn (numberOf a i 4) (numberOf a (i + 4) 2)) (numberOf a (i + 6) 2) (t .day .0) (t .day .1),
         le-leb (numberOf a (i + 8) 2) 23 (t .hour),
         le-leb (numberOf a (i + 10) 2) 59 (t .minute),
-        le-leb (numberOf a (i + 12) 2) 59 (t .second),
+        le-leb (numberOf a (i + 12) 2) (lastSecond (date (numberOf a i 4) (numberOf a (i + 4) 2) (numberOf a (i + 6) 2)) (numberOf a (i + 8) 2) (numberOf a (i + 10) 2)) (t .second),
         le-leb (numberOf a (i + 14) (n - 14)) 999 k,
       )
 

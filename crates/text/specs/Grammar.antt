@@ -6,8 +6,8 @@ use mathlib.Core.Bool.{Bool, true, false}
 use mathlib.Core.List.{List}
 use mathlib.Core.Logic.{_⊎_}
 use lib.ListN.{getD}
-use Rattle.calendar.specs.Calendar.{daysIn}
-use Rattle.meter.specs.General.{numberOf}
+use Rattle.calendar.specs.Calendar.{date, daysIn}
+use Rattle.meter.specs.General.{numberOf, lastSecond}
 use Rattle.text.specs.declared.Kind.{Kind}
 use Rattle.text.specs.declared.Kind.the-variants.{Text, Unsigned, Count, Signed, Time, LongTime}
 
@@ -31,8 +31,8 @@ pub record NumberIn (signed : Bool) (a : List ℕ) (i w : ℕ) : Type 0 where
   pub either : (sign ≡ 0) ⊎ ((sign ≡ 1) × (signed ≡ true) × ((getD a (i + spaces) 0 ≡ 43) ⊎ (getD a (i + spaces) 0 ≡ 45)))
   pub digits : (j : ℕ) → spaces + sign ≤ j → j < w → In 48 57 (getD a (i + j) 0)
 
--- n digits, 14 or 17, and Z: a date of the Gregorian calendar, years 0000 to 9999, the hour, the minute, the second, and with 17 the
--- millisecond
+-- n digits, 14 or 17, and Z: a date of the Gregorian calendar, years 0000 to 9999, the hour, the minute, the second, which is 60 only in a leap
+-- second, and with 17 the millisecond
 pub record TimeIn (n : ℕ) (a : List ℕ) (i : ℕ) : Type 0 where
   pub digits : Each 48 57 a i n
   pub zed : getD a (i + n) 0 ≡ 90
@@ -40,7 +40,7 @@ pub record TimeIn (n : ℕ) (a : List ℕ) (i : ℕ) : Type 0 where
   pub day : In 1 (daysIn (numberOf a i 4) (numberOf a (i + 4) 2)) (numberOf a (i + 6) 2)
   pub hour : numberOf a (i + 8) 2 ≤ 23
   pub minute : numberOf a (i + 10) 2 ≤ 59
-  pub second : numberOf a (i + 12) 2 ≤ 59
+  pub second : numberOf a (i + 12) 2 ≤ lastSecond (date (numberOf a i 4) (numberOf a (i + 4) 2) (numberOf a (i + 6) 2)) (numberOf a (i + 8) 2) (numberOf a (i + 10) 2)
 
 -- n times x, and then x (01) or Z (002)
 abbrev pub NoTimeIn : ℕ → List ℕ → ℕ → Type 0

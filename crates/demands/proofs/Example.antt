@@ -9,7 +9,7 @@ use mathlib.Core.List.{List, [], _∷_, _++_}
 use lib.Dec.{T, eqb, eqb→eq, leb→le}
 use lib.Seq.{getD-drop}
 use lib.ListN.{length, getD, drop}
-use Rattle.calendar.specs.Calendar.{isDate}
+use Rattle.calendar.specs.Calendar.{isDate, leapDay}
 use Rattle.calendar.proofs.Range.{both, both-left, both-right, below}
 use Rattle.calendar.proofs.Range as R
 use Rattle.meter.specs.Integer.{beAt}
@@ -173,7 +173,7 @@ unfolding headed beAt example text
 header = refl
 
 times : timed example ≡ true
-unfolding timedAt beAt lastMilli example text
+unfolding timedAt beAt lastMilli leapDay example text
 times = refl
 
 declares : declared example ≡ 3328
@@ -190,7 +190,7 @@ unfolding example text
 no-pointer e = let z : _≡_ {A = ℕ} 8 3 = e in omega arith
 
 dummy : IsRecord example 1 3307
-unfolding isClass isGroup mayFollow firstAfter timedAt beAt lastMilli example text
+unfolding isClass isGroup mayFollow firstAfter timedAt beAt lastMilli leapDay example text
 dummy = record {
   known = refl;
   grouped = refl;

@@ -1,6 +1,7 @@
 //! An opinion from outside: 01 read independently. The judges twice, the rest once.
 pub mod fast;
 pub mod generate;
+pub mod json;
 pub mod leaves;
 pub mod lines;
 pub mod plain;

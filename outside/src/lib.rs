@@ -8,11 +8,12 @@ pub mod plain;
 pub mod seen;
 pub mod values;
 pub mod vectors;
+pub mod watch;
 
 #[cfg(feature = "boundary")]
 pub mod boundary;
 
-/// What the arrival judge says.
+/// What the arrival judge says, and the watch.
 #[derive(Clone, Copy, Debug, PartialEq, Eq)]
 pub enum Arrival {
     Refused { number: u64, place: u64 },

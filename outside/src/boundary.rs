@@ -5,6 +5,7 @@ pub mod raw;
 use crate::values::{Date, Field, GroundPoint, Header, Moment, Reading, Record, Refusal, Scaled, Time, Which};
 use crate::{Arrival, Finished};
 use std::cmp::Ordering;
+use std::io;
 
 /// No quotient has these bits: a number lent with them shows whether it was written.
 const UNWRITTEN: u64 = 0x7ff8_0bad_0bad_0bad;
@@ -41,6 +42,59 @@ pub fn finished(bytes: &[u8], index: &mut [u32]) -> Finished {
     match form::one(raw::finished(bytes, index)) {
         Ok(count) => Finished::Accepted { count },
         Err(Refusal { number, place }) => Finished::Refused { number, place },
+    }
+}
+
+// ---- the watch
+
+/// A watch over an arrival that is not kept: some four kilobytes, however long the product.
+///
+/// It is fed the parts as they come, or a download is copied into it with `std::io::copy`.
+#[derive(Clone, PartialEq)]
+pub struct Watch {
+    state: raw::Watch,
+    answer: Arrival,
+}
+
+impl Default for Watch {
+    fn default() -> Watch {
+        Watch::new()
+    }
+}
+
+impl Watch {
+    /// It stands for no bytes.
+    pub fn new() -> Watch {
+        Watch { state: raw::watch_new(), answer: Arrival::Waiting { count: 0, end: 0 } }
+    }
+
+    /// What `arrival` says of all that was fed, this part with it, up to a 65th pointer: that is refused with 24. A refusal stays.
+    pub fn feed(&mut self, part: &[u8]) -> Arrival {
+        self.answer = match raw::watch_feed(&mut self.state, part) {
+            [0, end, count, 0] => Arrival::Waiting { count, end },
+            [number @ (1..=16 | 24), place, 0, 0] => Arrival::Refused { number, place },
+            other => panic!("not an answer of the stated form: {other:?}"),
+        };
+        self.answer
+    }
+
+    /// The last answer.
+    pub fn answer(&self) -> Arrival {
+        self.answer
+    }
+}
+
+/// A part that shows a refusal, and each after it, is an error of kind `InvalidData` that carries the `Refusal`.
+impl io::Write for Watch {
+    fn write(&mut self, part: &[u8]) -> io::Result<usize> {
+        match self.feed(part) {
+            Arrival::Waiting { .. } => Ok(part.len()),
+            Arrival::Refused { number, place } => Err(io::Error::new(io::ErrorKind::InvalidData, Refusal { number, place })),
+        }
+    }
+
+    fn flush(&mut self) -> io::Result<()> {
+        Ok(())
     }
 }
 

@@ -468,6 +468,66 @@ pub fn product(rng: &mut Rng, n: usize) -> (Product, Made) {
     (p, made)
 }
 
+/// The totals set to the classes that the records have.
+fn recount(p: &mut Product) {
+    let mut totals = [0; 9];
+    for s in &p.starts {
+        let class = p.bytes[*s] as usize;
+        totals[if class < 9 { class } else { 0 }] += 1;
+    }
+    totals[0] = totals[1..].iter().sum();
+    for (class, n) in totals.into_iter().enumerate() {
+        set_number(&mut p.bytes, RECORDS_LINE + class, n);
+    }
+}
+
+/// Product `n` for a watch: as `product` gives it, or every seventh with about as many IPRs as a watch may know, most of them damaged at one
+/// of the last IPRs.
+pub fn product_to_watch(rng: &mut Rng, n: usize) -> (Product, Made) {
+    if n % 7 > 0 {
+        return product(rng, n);
+    }
+    let mut shape = shape(rng);
+    shape.pointers = rng.pick(&[63, 64, 65, 66, 70]);
+    shape.others.push((8, 20 + rng.below(30)));
+    let mut p = build(rng, &shape);
+    let k = shape.sphr.map_or(1, |_| 2) + rng.pick(&[62, 63, 64, 64, 64, 65]).min(shape.pointers - 1);
+    let (a, c) = (7 + rng.below(8), 7 + rng.below(8));
+    let made = match rng.below(8) {
+        0 => Made::Valid,
+        1 => {
+            // Another class between two IPRs.
+            let s = p.starts[k];
+            p.bytes[s] = 4 + rng.below(5) as u8;
+            recount(&mut p);
+            Made::Row(8)
+        }
+        2..=5 => {
+            damage(rng, &mut p, a, k);
+            Made::Row(a)
+        }
+        _ => {
+            damage(rng, &mut p, a, k);
+            damage(rng, &mut p, c, k);
+            Made::Pair(a, c)
+        }
+    };
+    (p, made)
+}
+
+/// How many of the bytes from `at` on come as the next part: none, few, up to near a place where something is shown, or any number.
+pub fn part(rng: &mut Rng, p: &Product, at: usize) -> usize {
+    let left = p.bytes.len() - at;
+    let n = match rng.below(24) {
+        0..=20 if at == 0 && !rng.one_in(4) => MAIN_SIZE - 30 + rng.below(60),
+        0..=20 => rng.pick(&[0, 1, 2, 19, 20, 27, 100]),
+        21 => 1500,
+        22 => rng.below(left + 1),
+        _ => prefix(rng, p).saturating_sub(at),
+    };
+    n.min(left)
+}
+
 /// A length to judge at: all, anywhere, or beside a place where something is shown.
 pub fn prefix(rng: &mut Rng, p: &Product) -> usize {
     let len = p.bytes.len();

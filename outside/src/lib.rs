@@ -1,17 +1,19 @@
 //! An opinion from outside: 01 read independently. The judges twice, the rest once.
 pub mod fast;
 pub mod generate;
+pub mod json;
 pub mod leaves;
 pub mod lines;
 pub mod plain;
 pub mod seen;
 pub mod values;
 pub mod vectors;
+pub mod watch;
 
 #[cfg(feature = "boundary")]
 pub mod boundary;
 
-/// What the arrival judge says.
+/// What the arrival judge says, and the watch.
 #[derive(Clone, Copy, Debug, PartialEq, Eq)]
 pub enum Arrival {
     Refused { number: u64, place: u64 },

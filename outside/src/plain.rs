@@ -26,12 +26,14 @@ struct Pointer {
     offset: u64,
 }
 
-/// All that the bytes say: faults (shown or not yet), whole records, the records' starts, and the product's size where it is known.
+/// All that the bytes say: faults (shown or not yet), whole records, the starts of the records and of the IPRs among them, and the product's
+/// size where it is known.
 pub struct Findings {
     pub faults: Vec<Fault>,
     pub count: u64,
     pub end: u64,
     pub starts: Vec<u64>,
+    pub iprs: Vec<u64>,
     pub size: Option<u64>,
 }
 
@@ -186,7 +188,7 @@ pub fn findings(bytes: &[u8]) -> Findings {
         }
     }
     let (Some(d), Some(totals), true) = (size, totals, sound && len >= MAIN_SIZE) else {
-        return Findings { faults, count: 0, end: 0, starts: Vec::new(), size: None };
+        return Findings { faults, count: 0, end: 0, starts: Vec::new(), iprs: Vec::new(), size: None };
     };
 
     // The records after it: 6 to 12.
@@ -269,19 +271,40 @@ pub fn findings(bytes: &[u8]) -> Findings {
         fault(16, d, d + 1);
     }
     let starts = records.iter().map(|r| r.start).collect();
-    Findings { faults, count: whole, end, starts, size: Some(d) }
+    let iprs = records.iter().filter(|r| r.class == 3).map(|r| r.start).collect();
+    Findings { faults, count: whole, end, starts, iprs, size: Some(d) }
 }
 
 fn least(found: &Findings, len: usize) -> Option<Fault> {
     found.faults.iter().filter(|f| f.shown <= len as u64).min().copied()
 }
 
-pub fn arrival(bytes: &[u8]) -> Arrival {
-    let found = findings(bytes);
-    match least(&found, bytes.len()) {
+fn given(found: &Findings, least: Option<Fault>) -> Arrival {
+    match least {
         Some(f) => Arrival::Refused { number: f.number, place: f.place },
         None => Arrival::Waiting { count: found.count, end: found.end },
     }
+}
+
+pub fn arrival(bytes: &[u8]) -> Arrival {
+    let found = findings(bytes);
+    given(&found, least(&found, bytes.len()))
+}
+
+/// The faults of the watch's table (request One) that so many bytes show, the one that is given first. The table has one row more: 24, a 65th
+/// IPR, place its start s, shown at s+20, which stands after 12 and before 13 in the order of numbers.
+pub fn shown_to_watch(found: &Findings, len: usize) -> Vec<Fault> {
+    let mut faults = found.faults.clone();
+    faults.extend(found.iprs.get(64).map(|s| Fault { shown: s + 20, number: 24, place: *s }));
+    faults.retain(|f| f.shown <= len as u64);
+    faults.sort_by_key(|f| (f.shown, if f.number == 24 { (12, 1) } else { (f.number, 0) }, f.place));
+    faults
+}
+
+/// What is right for a watch that stands for these bytes.
+pub fn watched(bytes: &[u8]) -> Arrival {
+    let found = findings(bytes);
+    given(&found, shown_to_watch(&found, bytes.len()).first().copied())
 }
 
 pub fn finished(bytes: &[u8], index: &mut [u32]) -> Finished {

@@ -1,4 +1,5 @@
 //! What the leaves, the queries and the boundary take and give.
+use std::fmt;
 
 /// A refusal of 01: "Numbers we answer with".
 #[derive(Clone, Copy, Debug, PartialEq, Eq)]
@@ -6,6 +7,15 @@ pub struct Refusal {
     pub number: u64,
     pub place: u64,
 }
+
+/// As the listing has it.
+impl fmt::Display for Refusal {
+    fn fmt(&self, f: &mut fmt::Formatter) -> fmt::Result {
+        write!(f, "refused {} {}", self.number, self.place)
+    }
+}
+
+impl std::error::Error for Refusal {}
 
 /// A day of the calendar.
 #[derive(Clone, Copy, Debug, PartialEq, Eq)]

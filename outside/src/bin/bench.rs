@@ -1,8 +1,13 @@
-//! Times of the judges on three large products: medians of runs taken in turn.
+//! Times of the judges on three large products, and of the watch: medians of runs taken in turn.
 use outside::generate::{build, Product, Rng, Shape};
+use outside::watch::Watch;
 use outside::{fast, Arrival, Finished};
+use std::cell::RefCell;
 use std::hint::black_box;
 use std::time::Instant;
+
+#[cfg(feature = "boundary")]
+use outside::boundary;
 
 /// n records of one class with one size, so many pointers before them.
 fn large(seed: u64, records: usize, size: usize, pointers: usize, sorted: bool) -> Product {
@@ -45,44 +50,18 @@ impl Series {
     }
 }
 
-/// Boundary over fast, each run by the one in the same round.
-fn ratio(what: &'static str, boundary: &Series, fast: &Series) {
-    let figures = boundary.figures.iter().zip(&fast.figures).map(|(b, f)| b / f).collect();
-    let ratios = Series { name: what, figures };
-    let v = ratios.sorted();
-    println!("  {what} boundary / fast: median {:.2}   least {:.2}   most {:.2}", ratios.median(), v[0], v[v.len() - 1]);
-}
+/// A contender: its name, and one judging whose answer it checks itself.
+type Contender<'a> = (&'static str, Box<dyn FnMut() + 'a>);
 
-/// Each run judges so many times and is divided by that.
-fn measure(what: &str, make: impl Fn() -> Product, runs: usize, times: usize) {
-    if std::env::var("ONLY").is_ok_and(|only| only != what) {
-        return;
-    }
-    let p = &make();
-    let bytes = &p.bytes;
-    let count = p.starts.len();
-    let mut index = vec![0u32; count];
-    let expected = Finished::Accepted { count: count as u64 };
-    let waiting = Arrival::Waiting { count: count as u64, end: bytes.len() as u64 };
-    let mut all = vec![Series { name: "finished fast", figures: vec![] }, Series { name: "arrival fast", figures: vec![] }];
-    if cfg!(feature = "boundary") {
-        all.push(Series { name: "finished boundary", figures: vec![] });
-        all.push(Series { name: "arrival boundary", figures: vec![] });
-    }
-    // One round to warm up, then the runs, each judge in its turn.
+/// One round to warm up, then the runs, each contender in its turn. A run judges so many times and is divided by that.
+fn rounds(runs: usize, times: usize, contenders: Vec<Contender>) -> Vec<Series> {
+    let (mut all, mut judges): (Vec<Series>, Vec<_>) =
+        contenders.into_iter().map(|(name, judge)| (Series { name, figures: vec![] }, judge)).unzip();
     for round in 0..=runs {
-        for series in &mut all {
+        for (series, judge) in all.iter_mut().zip(&mut judges) {
             let from = Instant::now();
             for _ in 0..times {
-                match series.name {
-                    "finished fast" => assert_eq!(fast::finished(black_box(bytes), &mut index), expected),
-                    "arrival fast" => assert_eq!(fast::arrival(black_box(bytes)), waiting),
-                    #[cfg(feature = "boundary")]
-                    "finished boundary" => assert_eq!(outside::boundary::finished(black_box(bytes), &mut index), expected),
-                    #[cfg(feature = "boundary")]
-                    "arrival boundary" => assert_eq!(outside::boundary::arrival(black_box(bytes)), waiting),
-                    _ => unreachable!(),
-                }
+                judge();
             }
             let took = from.elapsed().as_secs_f64() * 1e6 / times as f64;
             if round > 0 {
@@ -90,16 +69,88 @@ fn measure(what: &str, make: impl Fn() -> Product, runs: usize, times: usize) {
             }
         }
     }
-    assert!(index.iter().zip(&p.starts).all(|(a, b)| *a as usize == *b));
-    println!("{what}: {} bytes, {count} records, {} pointers", bytes.len(), p.pointers.len());
     for series in &all {
         let v = series.sorted();
-        println!("  {:18} median {:10.1} us   least {:10.1}   most {:10.1}   runs {}", series.name, series.median(), v[0], v[v.len() - 1], v.len());
+        let (least, most) = (v[0], v[v.len() - 1]);
+        println!("  {:18} median {:10.1} us   least {least:10.1}   most {most:10.1}   runs {}", series.name, series.median(), v.len());
     }
-    if all.len() == 4 {
-        ratio("finished", &all[2], &all[0]);
-        ratio("arrival", &all[3], &all[1]);
+    all
+}
+
+/// The one over the other, each run by that in the same round, where both are there.
+fn ratio(all: &[Series], name: &str, over: &str) {
+    let find = |name: &str| all.iter().find(|s| s.name == name);
+    let (Some(one), Some(other)) = (find(name), find(over)) else { return };
+    let figures = one.figures.iter().zip(&other.figures).map(|(a, b)| a / b).collect();
+    let ratios = Series { name: "", figures };
+    let v = ratios.sorted();
+    println!("  {name} / {over}: median {:.2}   least {:.2}   most {:.2}", ratios.median(), v[0], v[v.len() - 1]);
+}
+
+fn left_out(what: &str) -> bool {
+    std::env::var("ONLY").is_ok_and(|only| only != what)
+}
+
+fn measure(what: &str, make: impl Fn() -> Product, runs: usize, times: usize) {
+    if left_out(what) {
+        return;
     }
+    let p = &make();
+    let bytes = &p.bytes;
+    let count = p.starts.len();
+    let index = &RefCell::new(vec![0u32; count]);
+    let accepted = Finished::Accepted { count: count as u64 };
+    let waiting = Arrival::Waiting { count: count as u64, end: bytes.len() as u64 };
+    println!("{what}: {} bytes, {count} records, {} pointers", bytes.len(), p.pointers.len());
+    let all = rounds(
+        runs,
+        times,
+        vec![
+            ("finished fast", Box::new(|| assert_eq!(fast::finished(black_box(bytes), &mut index.borrow_mut()), accepted))),
+            ("arrival fast", Box::new(|| assert_eq!(fast::arrival(black_box(bytes)), waiting))),
+            #[cfg(feature = "boundary")]
+            ("finished boundary", Box::new(|| assert_eq!(boundary::finished(black_box(bytes), &mut index.borrow_mut()), accepted))),
+            #[cfg(feature = "boundary")]
+            ("arrival boundary", Box::new(|| assert_eq!(boundary::arrival(black_box(bytes)), waiting))),
+        ],
+    );
+    assert!(index.borrow().iter().zip(&p.starts).all(|(a, b)| *a as usize == *b));
+    ratio(&all, "finished boundary", "finished fast");
+    ratio(&all, "arrival boundary", "arrival fast");
+}
+
+/// A new watch is fed the bytes in parts of one length; the last answer.
+fn watched(bytes: &[u8], length: usize) -> Arrival {
+    let mut watch = Watch::new();
+    bytes.chunks(length).map(|part| watch.feed(black_box(part))).last().unwrap()
+}
+
+#[cfg(feature = "boundary")]
+fn watched_boundary(bytes: &[u8], length: usize) -> Arrival {
+    let mut watch = boundary::Watch::new();
+    bytes.chunks(length).map(|part| watch.feed(black_box(part))).last().unwrap()
+}
+
+/// The watches on parts of one length, and the arrival judges on the whole.
+fn measure_watch(p: &Product, length: usize, runs: usize, times: usize) {
+    let bytes = &p.bytes;
+    let waiting = Arrival::Waiting { count: p.starts.len() as u64, end: bytes.len() as u64 };
+    println!("watch: {} bytes, {} records, {} pointers, in parts of {length}", bytes.len(), p.starts.len(), p.pointers.len());
+    let all = rounds(
+        runs,
+        times,
+        vec![
+            ("arrival fast", Box::new(|| assert_eq!(fast::arrival(black_box(bytes)), waiting))),
+            ("watch", Box::new(|| assert_eq!(watched(bytes, length), waiting))),
+            #[cfg(feature = "boundary")]
+            ("arrival boundary", Box::new(|| assert_eq!(boundary::arrival(black_box(bytes)), waiting))),
+            #[cfg(feature = "boundary")]
+            ("watch boundary", Box::new(|| assert_eq!(watched_boundary(bytes, length), waiting))),
+        ],
+    );
+    ratio(&all, "watch", "arrival fast");
+    ratio(&all, "watch boundary", "watch");
+    ratio(&all, "watch boundary", "arrival boundary");
 }
 
 fn main() {
@@ -113,5 +164,13 @@ fn main() {
     // Not asked for, but the other path: targets that descend. The boundary may take long here, so it is left out unless SCATTERED is set.
     if !cfg!(feature = "boundary") || std::env::var_os("SCATTERED").is_some() {
         measure("scattered", || large(10, 20_000, 335, 20_000, false), runs, 1);
+    }
+    if !left_out("watch") {
+        let p = even(64, false);
+        measure_watch(&p, 64 << 10, runs, 1);
+        measure_watch(&p, 1500, runs, 1);
+        // The main header a byte at a time.
+        let p = large(12, 0, 20, 0, true);
+        measure_watch(&p, 1, runs, 100);
     }
 }

@@ -7,6 +7,9 @@ extern "C" {
     fn wl_extent(bytes: *const u8, len: usize, answer: &mut [u64; 4]);
     fn wl_finished(bytes: *const u8, len: usize, index: *mut u32, room: usize, answer: &mut [u64; 4]);
 
+    fn wl_watch_new(watch: &mut Watch);
+    fn wl_watch_feed(watch: &mut Watch, part: *const u8, len: usize, answer: &mut [u64; 4]);
+
     fn wl_record(bytes: *const u8, len: usize, k: usize, answer: &mut [u64; 16]);
     fn wl_number_field(bytes: *const u8, len: usize, k: usize, answer: &mut [u64; 4]);
     fn wl_time_field(bytes: *const u8, len: usize, k: usize, answer: &mut [u64; 12]);
@@ -66,6 +69,50 @@ extern "C" {
     );
 }
 
+/// wl_watch, whose parts are its own.
+#[repr(C)]
+#[derive(Clone, PartialEq)]
+pub struct Watch {
+    head: [u8; 3307],
+    under: [u8; 27],
+    starts: [u32; 64],
+    targets: [u32; 64],
+    kinds: [u32; 64],
+    totals: [usize; 9],
+    tally: [usize; 9],
+    got: usize,
+    have: usize,
+    at: usize,
+    count: usize,
+    d: usize,
+    due: usize,
+    place: usize,
+    next: usize,
+    prev: u8,
+    number: u8,
+}
+
+/// A place for a watch, filled with ones as an answer is.
+const UNMADE: Watch = Watch {
+    head: [u8::MAX; 3307],
+    under: [u8::MAX; 27],
+    starts: [u32::MAX; 64],
+    targets: [u32::MAX; 64],
+    kinds: [u32::MAX; 64],
+    totals: [usize::MAX; 9],
+    tally: [usize::MAX; 9],
+    got: usize::MAX,
+    have: usize::MAX,
+    at: usize::MAX,
+    count: usize::MAX,
+    d: usize::MAX,
+    due: usize::MAX,
+    place: usize::MAX,
+    next: usize::MAX,
+    prev: u8::MAX,
+    number: u8::MAX,
+};
+
 fn answered<const N: usize>(call: impl FnOnce(&mut [u64; N])) -> [u64; N] {
     let mut answer = [u64::MAX; N];
     call(&mut answer);
@@ -89,6 +136,18 @@ pub fn extent(bytes: &[u8]) -> [u64; 4] {
 pub fn finished(bytes: &[u8], index: &mut [u32]) -> [u64; 4] {
     // SAFETY: as above.
     answered(|answer| unsafe { wl_finished(bytes.as_ptr(), bytes.len(), index.as_mut_ptr(), index.len(), answer) })
+}
+
+pub fn watch_new() -> Watch {
+    let mut watch = UNMADE;
+    // SAFETY: as above; the watch has the layout that the header states.
+    unsafe { wl_watch_new(&mut watch) };
+    watch
+}
+
+pub fn watch_feed(watch: &mut Watch, part: &[u8]) -> [u64; 4] {
+    // SAFETY: as above; the watch has the layout that the header states, and any state of it is taken.
+    answered(|answer| unsafe { wl_watch_feed(watch, part.as_ptr(), part.len(), answer) })
 }
 
 pub fn record(bytes: &[u8], k: usize) -> [u64; 16] {

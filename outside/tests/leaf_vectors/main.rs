@@ -1,9 +1,8 @@
 //! The leaves, and with the feature the boundary, against the vectors in VECTORS/leaves. Where the two disagree, this says which of them the
 //! vectors are with.
-mod json;
-
-use json::Json;
+use outside::json::Json;
 use outside::values::{GroundPoint, Header, Moment, Reading, Refusal, Scaled, Time};
+use outside::vectors::cases;
 use std::cmp::Ordering;
 
 mod leaves {
@@ -15,14 +14,6 @@ mod leaves {
 mod boundary {
     use outside::boundary as tried;
     include!("cases.rs");
-}
-
-/// The cases of a file, and how many there must be.
-fn cases(name: &str, count: usize) -> Vec<Json> {
-    let text = std::fs::read_to_string(outside::vectors::file(name)).unwrap();
-    let all: Vec<Json> = text.lines().map(Json::parse).collect();
-    assert_eq!(all.len(), count, "{name}");
-    all
 }
 
 // Answers in the vectors' own words.

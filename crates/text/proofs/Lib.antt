@@ -5,3 +5,4 @@ pub mod Alike
 pub mod Same
 pub mod Back
 pub mod Determined
+pub mod EachLaws

@@ -4,12 +4,12 @@ use meter::general::GeneralRead;
 use meter::integer::Written;
 ghost use mathlib.Core.Path.{_≡_};
 ghost use mathlib.Core.Bool.{_&&_, _||_};
-ghost use Prim.Native.Nat.{_+_, _-_, _^_, _≤_, _<_};
+ghost use Prim.Native.Nat.{ℕ, _+_, _-_, _^_, _≤_, _<_};
 ghost use lib.Dec.{eqb, leb};
 ghost use lib.IntN.{natAbs};
 ghost use lib.ListN.{length};
 ghost use Rattle.meter.specs.Lent.{inside};
-ghost use Rattle.meter.specs.General.{digitsOf, runOf, numberOf, isGeneral};
+ghost use Rattle.meter.specs.General.{digitsOf, runOf, each, numberOf, isGeneral};
 ghost use Rattle.text.specs.Field.{isX, signs, spaces, isNumber, integerOf, isValue, numberReadAt, saidNumber};
 ghost use Rattle.text.specs.Writing.{spelled, fitsNumber, mark, still, putRest, putWhole, putX, putNumber, WritesNumber};
 ghost use Rattle.text.specs.Writing.{fitsText, putText, WritesText};
@@ -61,6 +61,38 @@ fn run(bytes: &[u8], at: usize, n: usize, lo: u8, hi: u8) -> usize
         j += 1;
     }
     j
+}
+
+fn lesser(a: u8, b: u8) -> u8
+    ensures { λ r. ⌜ (r ≤ a) × (r ≤ b) × ((m : ℕ) → m ≤ a → m ≤ b → m ≤ r) ⌝ }
+{
+    if a < b { a } else { b }
+}
+
+fn greater(a: u8, b: u8) -> u8
+    ensures { λ r. ⌜ (a ≤ r) × (b ≤ r) × ((m : ℕ) → a ≤ m → b ≤ m → r ≤ m) ⌝ }
+{
+    if a < b { b } else { a }
+}
+
+// Each of the n bytes from `at` on is `lo` to `hi`. The least and the greatest of them tell: a loop that has no other way out is done sixteen
+// bytes at a time, which pays where the field is wide.
+fn is_each(bytes: &[u8], at: usize, n: usize, lo: u8, hi: u8) -> bool
+    requires { ⌜ at + n ≤ length (now bytes) ⌝ }
+    ensures { λ r. ⌜ r ≡ each lo hi (now (bytes .entry)) at n ⌝ }
+{
+    let mut least = lo;
+    let mut most = hi;
+    let mut j: usize = 0;
+    while j < n {
+        least = lesser(least, bytes[at + j]);
+        most = greater(most, bytes[at + j]);
+        j += 1;
+    }
+    if least < lo {
+        return false;
+    }
+    most <= hi
 }
 
 fn is_x(bytes: &[u8], at: usize, width: usize) -> bool
@@ -134,7 +166,7 @@ pub fn is_value(bytes: &[u8], at: usize, width: usize, kind: Kind) -> bool
         return false;
     }
     match kind {
-        Kind::Text => run(bytes, at, width, 32, 126) == width,
+        Kind::Text => is_each(bytes, at, width, 32, 126),
         Kind::Unsigned => is_numeric(bytes, at, width, false),
         Kind::Count => is_number(bytes, at, width, false),
         Kind::Signed => is_numeric(bytes, at, width, true),

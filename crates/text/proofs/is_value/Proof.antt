@@ -20,8 +20,8 @@ returns c = simp (sym (c .before .holds .ensures) ∙ not-true (c .before .holds
 enum-told : tie.Need-enum-told
 enum-told c = search needs
 
-run-requires : tie.Need-run-requires
-run-requires c κs =
+is-each-requires : tie.Need-is-each-requires
+is-each-requires c κs =
     let a = c .before .before .before .before .before .args in
     let h = sym (c .before .before .before .holds .ensures) ∙ not-false (c .before .before .before .holds .result) (c .before .before .if1 .left) in
     leb-true (a .at + a .width) (length (a .bytes .now)) h
@@ -76,7 +76,7 @@ unfolding isValue
 returns-2 c =
     let a = c .before .before .before .before .before .before .args in
     let h = sym (c .before .before .before .before .holds .ensures) ∙ not-false (c .before .before .before .before .holds .result) (c .before .before .before .if1 .left) in
-    value-of (a .kind) K.Text (a .bytes .now) (a .at) (a .width) _ h (c .before .enum-told .given .1) (ap (λ (r : ℕ). eqb r (a .width)) (c .run .ensures .0))
+    value-of (a .kind) K.Text (a .bytes .now) (a .at) (a .width) _ h (c .before .enum-told .given .1) (c .is-each .ensures)
 
 returns-3 : tie.Need-returns-3
 unfolding isValue
@@ -120,7 +120,7 @@ is-value-spec =
     holds-requires
     returns
     enum-told
-    run-requires
+    is-each-requires
     enum-told-2
     is-numeric-requires
     enum-told-3

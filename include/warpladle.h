@@ -285,7 +285,9 @@ void wl_date_of(uint16_t day, uint64_t answer[6]);
 /* The day of a date: 0, 0, day, 0; or 21 for no date and for one before day 0 or after day 65535. */
 void wl_day_number(uint16_t year, uint8_t month, uint8_t day, uint64_t answer[4]);
 
-/* ---- times: a day and a millisecond of that day, 0 to 86,399,999. In 6 bytes the day has 2 and the millisecond 4; all 48 bits one are undefined */
+/* ---- times: a day, counted from 1 January 2000, and a millisecond of that day, 0 to 86,399,999, or to 86,400,999 on the five days that end in a leap
+ * second: 2191, 3287, 4564, 5659 and 6209 (31 December 2005, 2008 and 2016, 30 June 2012 and 2015). A written time has second 60 at 23:59 of these dates
+ * alone. In 6 bytes the day has 2 and the millisecond 4; all 48 bits one are undefined */
 
 /* The time in the 6 bytes from `at` on: 0, 0, defined, day, millisecond, 0; or 20, 21. */
 void wl_read_time(const uint8_t *bytes, size_t len, size_t at, uint64_t answer[6]);

@@ -1,6 +1,5 @@
 // The arrival judge: one pass over the records' headers, in constant memory; payloads are not read.
 use crate::header::is_part;
-use crate::header::look_ahead;
 use crate::header::rank;
 use crate::header::word;
 use crate::pace::no_pace;
@@ -174,13 +173,11 @@ fn walk_on(s: &[u8], totals: &[usize], held: &mut [[u32; 3]], d: usize) -> Arriv
     let mut at: usize = 3307;
     let mut prev: u8 = 1;
     let mut w = no_pointers(d);
-    let mut near: usize = 0;
     let mut pace = no_pace();
     let mut hold = no_hold(d);
     // Once: a const array is copied where it is named.
     let follow = record::follow::FOLLOW;
     while at < d {
-        near = look_ahead(s, at, near);
         if passes(s, &follow, totals, &tally, pace, at, prev) {
             tally[prev as usize] += 1;
             count += 1;

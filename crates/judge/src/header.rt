@@ -141,7 +141,8 @@ pub(crate) fn rank(
 const AHEAD: usize = 24;
 
 // Records are mostly of one size, and then their headers can be read ahead side by side, which brings them from memory together;
-// `left` of those read are still ahead. A hint: no answer depends on it.
+// `left` of those read are still ahead. A hint: no answer depends on it. (The watch asks; here a record like the last one passes without
+// waiting for its size.)
 pub fn look_ahead(s: &[u8], at: usize, left: usize) -> usize {
     if left != 0 {
         return left - 1;

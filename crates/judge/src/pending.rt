@@ -1,5 +1,5 @@
-// The nearest of the pointers whose targets are still to come, in a lent room of any size: where their targets are in no order, a record asks
-// these and not all of them.
+// The nearest of the pointers whose targets are still to come, in a lent room of any size: where their targets are in no order, a record
+// asks these and not all of them.
 use crate::header::triple;
 use crate::header::word;
 use crate::pace::lesser;
@@ -15,8 +15,8 @@ ghost use Rattle.mphr.specs.Table.{declared};
 ghost use Rattle.judge.specs.Step.{any, Scan, Kept};
 ghost use Rattle.judge.specs.Pending.{EntryIs, GatheredIs, StillIs, SweptIs, noHold, RefillIs, HoldIs, EasedIs};
 
-// What is held: how many, the edge below which all are held, how wide a part to try first the next time, the end of the last pointer that was
-// looked at, and a byte before which no pointer tells against the record at hand or points past it.
+// What is held: how many, the edge below which all are held, how wide a part to try first the next time, the end of the last pointer that
+// was looked at, and a byte before which no pointer tells against the record at hand or points past it.
 pub struct Hold {
     pub count: usize,
     pub edge: usize,
@@ -217,8 +217,9 @@ fn due_of(swept: Swept, at: usize) -> usize
     if swept.calm { swept.due } else { at }
 }
 
-// Where the targets are in no order and a pointer may point at the record at `at`, the held ones say whether all that do name it, and which
-// is the next; where they do not all name it, or cannot be held, the byte that is due stays at `at`, and the turn looks through all of them.
+// Where the targets are in no order and a pointer may point at the record at `at`, the held ones say whether all that do name it, and
+// which is the next; where they do not all name it, or cannot be held, the byte that is due stays at `at`, and the turn looks through all
+// of them.
 pub(crate) fn ease(
     s: &[u8],
     held: &mut [[u32; 3]],

@@ -75,8 +75,8 @@ fn greater(a: u8, b: u8) -> u8
     if a < b { b } else { a }
 }
 
-// Each of the n bytes from `at` on is `lo` to `hi`. The least and the greatest of them tell: a loop that has no other way out is done sixteen
-// bytes at a time, which pays where the field is wide.
+// Each of the n bytes from `at` on is `lo` to `hi`. The least and the greatest of them tell: a loop that has no other way out is done
+// sixteen bytes at a time, which pays where the field is wide.
 fn is_each(bytes: &[u8], at: usize, n: usize, lo: u8, hi: u8) -> bool
     requires { ⌜ at + n ≤ length (now bytes) ⌝ }
     ensures { λ r. ⌜ r ≡ each lo hi (now (bytes .entry)) at n ⌝ }

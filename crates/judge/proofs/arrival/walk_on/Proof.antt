@@ -24,11 +24,11 @@ use Rattle.judge.proofs.arrival.walk_on.Statement.{statement}
 use Rattle.judge.proofs.arrival.walk_on.Tie as tie
 
 abbrev Inv-loop : tie.InvT-loop
-Inv-loop s totals held₀ d tally₀ count₀ at₀ prev₀ w₀ near₀ pace₀ hold₀ follow held tally count at prev w near pace hold =
+Inv-loop s totals held₀ d tally₀ count₀ at₀ prev₀ w₀ pace₀ hold₀ follow held tally count at prev w pace hold =
     Turn s (site count at prev tally) × Kept s at w × Ruled follow × Paced s prev (w .due) d pace × HoldIs s at held hold × (length held ≡ length held₀)
 
 abbrev μ-loop : tie.MeasureT-loop
-μ-loop s totals held₀ d tally₀ count₀ at₀ prev₀ w₀ near₀ pace₀ hold₀ follow held tally count at prev w near pace hold = d - at
+μ-loop s totals held₀ d tally₀ count₀ at₀ prev₀ w₀ pace₀ hold₀ follow held tally count at prev w pace hold = d - at
 
 abbrev St : tie.At-loop Inv-loop μ-loop → tie.Start Inv-loop μ-loop
 St c = c .before .before .before .before .before .before
@@ -50,14 +50,14 @@ ready c h k = let y = walking c in record { d-is = y .d-is; small = y .small; ro
 
 -- a record like the last one
 abbrev P : tie.Then1 Inv-loop μ-loop → tie.At-loop Inv-loop μ-loop
-P c = c .before .before .before .before .before .before
+P c = c .before .before .before .before .before
 
 like : (c : tie.Then1 Inv-loop μ-loop) → Gone (a (P c)) (x (P c)) (P c .loop .at + P c .loop .pace .size) (P c .loop .prev) (P c .loop .w)
-like c = let l = c .before .passes .ensures (c .if1 .taken) in like-on (ready (P c) (c .before .before .before .before .before .loop-test .taken) (P c .loop .inv .1)) (P c .loop .inv .3) (l .0) (l .1)
+like c = let l = c .before .passes .ensures (c .if1 .taken) in like-on (ready (P c) (c .before .before .before .before .loop-test .taken) (P c .loop .inv .1)) (P c .loop .inv .3) (l .0) (l .1)
 
 -- the pointers are eased
 abbrev A : tie.After-ease Inv-loop μ-loop → tie.At-loop Inv-loop μ-loop
-A c = c .before .before .before .before .before .before .before .before
+A c = c .before .before .before .before .before .before .before
 
 eased : (c : tie.After-ease Inv-loop μ-loop) → Kept (a (A c)) (A c .loop .at) (due-at (A c .loop .w) (c .ease .result .due))
 eased c = kept-eased (A c .loop .inv .1) (c .ease .ensures .calm)
@@ -96,15 +96,12 @@ loop-holds c =
       refl,
     )
 
-look-ahead-requires : tie.Need-look-ahead-requires Inv-loop μ-loop
-look-ahead-requires c κs = search needs
-
 slice-aggregate-passes : tie.Need-slice-aggregate-passes Inv-loop μ-loop
 slice-aggregate-passes c = search needs
 
 passes-requires : tie.Need-passes-requires Inv-loop μ-loop
 passes-requires c κs =
-    let l = c .before .before .before .before in (
+    let l = c .before .before .before in (
       record { small = omega (arith, l .loop .inv .3 .small, walking l); inside = omega (arith, l .loop .inv .0 .inside, walking l); known = l .loop .inv .0 .known },
       l .loop .inv .2,
       walking l .totals .nine,
@@ -133,7 +130,7 @@ add-at : tie.Need-add-at Inv-loop μ-loop
 add-at c = let f = c .before in record { fits = omega (arith, P f .loop .inv .3 .small, P f .loop .inv .0 .inside, walking (P f)) }
 
 loop-less : tie.Need-loop-less Inv-loop μ-loop
-loop-less c = let f = c .before in omega (arith, like f .further, f .before .before .before .before .before .loop-test .taken)
+loop-less c = let f = c .before in omega (arith, like f .further, f .before .before .before .before .loop-test .taken)
 
 loop-again : tie.Need-loop-again Inv-loop μ-loop
 loop-again c =
@@ -143,8 +140,8 @@ loop-again c =
 
 ease-requires : tie.Need-ease-requires Inv-loop μ-loop
 ease-requires c κs =
-    let l = c .before .before .before .before .before .before .before in
-    (l .loop .inv .1, l .loop .inv .4, walking l .d-is, c .before .before .before .before .before .before .loop-test .taken, walking l .small)
+    let l = c .before .before .before .before .before .before in
+    (l .loop .inv .1, l .loop .inv .4, walking l .d-is, c .before .before .before .before .before .loop-test .taken, walking l .small)
 
 slice-aggregate-turn : tie.Need-slice-aggregate-turn Inv-loop μ-loop
 slice-aggregate-turn c = search needs
@@ -152,7 +149,7 @@ slice-aggregate-turn c = search needs
 turn-requires : tie.Need-turn-requires Inv-loop μ-loop
 turn-requires c κs =
     let e = c .before .before .before in
-    (ready (A e) (e .before .before .before .before .before .before .before .loop-test .taken) (eased e), A e .loop .inv .2)
+    (ready (A e) (e .before .before .before .before .before .before .loop-test .taken) (eased e), A e .loop .inv .2)
 
 enum-known-answer : tie.Need-enum-known-answer Inv-loop μ-loop
 enum-known-answer c = search needs
@@ -191,7 +188,7 @@ add-count-2 : tie.Need-add-count-2 Inv-loop μ-loop
 add-count-2 c = record { fits = omega (arith, L (c .before) .loop .inv .0 .counted, L (c .before) .loop .inv .0 .inside, walking (L (c .before))) }
 
 loop-less-2 : tie.Need-loop-less-2 Inv-loop μ-loop
-loop-less-2 c = let k = c .before in omega (arith, gone k .further, L k .loop .inv .0 .inside, T (k .before .before .before) .before .before .before .before .before .before .before .loop-test .taken)
+loop-less-2 c = let k = c .before in omega (arith, gone k .further, L k .loop .inv .0 .inside, T (k .before .before .before) .before .before .before .before .before .before .loop-test .taken)
 
 loop-again-2 : tie.Need-loop-again-2 Inv-loop μ-loop
 loop-again-2 c =
@@ -223,7 +220,6 @@ walk-on-spec =
     no-pace-requires
     no-hold-requires
     loop-holds
-    look-ahead-requires
     slice-aggregate-passes
     passes-requires
     cast-tally

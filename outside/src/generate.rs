@@ -1,5 +1,8 @@
 //! Products, whole and damaged, from a small generator of numbers that always gives the same ones.
+use crate::leap;
+use crate::leaves::date_of;
 use crate::lines::{Kind, LINES, MAIN_SIZE, RECORDS_LINE, SIZE_LINE, STARTS};
+use crate::values::{Date, Time};
 
 /// splitmix64.
 pub struct Rng(pub u64);
@@ -46,6 +49,59 @@ pub struct Shape {
     pub rest: usize,
 }
 
+/// On each side of where a usual day ends, and one with a leap second.
+pub const DAY_ENDS: [u32; 4] = [86_399_999, 86_400_000, 86_400_999, 86_401_000];
+
+/// Hour, minute and second: a leap second, and what is like it.
+pub const LEAP_LIKE: [(u8, u8, u8); 7] =
+    [(23, 59, 59), (23, 59, 60), (23, 59, 60), (23, 59, 61), (22, 59, 60), (23, 58, 60), (0, 0, 60)];
+
+/// A day that ends in a leap second, or the day before or after it.
+pub fn day_near_leap(rng: &mut Rng) -> u16 {
+    rng.pick(&leap::DAYS) + rng.pick(&[0, 1, 1, 2]) - 1
+}
+
+/// The date of such a day, now and then of another year.
+pub fn date_near_leap(rng: &mut Rng) -> Date {
+    let date = date_of(day_near_leap(rng));
+    let any = rng.below(10_000) as u16;
+    let year = rng.pick(&[date.year, date.year, date.year, date.year + 1, date.year - 1, 1972, 1998, any]);
+    Date { year, ..date }
+}
+
+/// Such a date with a time of day that is like a leap second, as a time field has it.
+fn text_near_leap(rng: &mut Rng, width: usize) -> Vec<u8> {
+    let (date, of_day) = (date_near_leap(rng), rng.pick(&LEAP_LIKE));
+    time_value(rng, date, of_day, width)
+}
+
+/// A time of 15 or 18 bytes.
+fn time_value(rng: &mut Rng, Date { year, month, day }: Date, (h, m, s): (u8, u8, u8), width: usize) -> Vec<u8> {
+    let mut v = format!("{year:04}{month:02}{day:02}{h:02}{m:02}{s:02}");
+    if width == 18 {
+        v += &format!("{:03}", rng.below(1000));
+    }
+    (v + "Z").into_bytes()
+}
+
+fn put_cds(bytes: &mut [u8], at: usize, time: Time) {
+    bytes[at..at + 2].copy_from_slice(&time.day.to_be_bytes());
+    bytes[at + 2..at + 6].copy_from_slice(&time.milli.to_be_bytes());
+}
+
+/// Good times in a leap second and beside it, start and stop of some records.
+fn put_leap_seconds(rng: &mut Rng, p: &mut Product) {
+    for s in &p.starts {
+        if rng.one_in(3) {
+            let (day, within) = (rng.pick(&leap::DAYS), 86_400_000 + rng.below(1000) as u32);
+            let start = Time { day, milli: rng.pick(&[86_399_999, 86_400_000, within, 86_400_999]) };
+            let stop = rng.pick(&[start, Time { day, milli: 86_400_999 }, Time { day: day + 1, milli: 0 }]);
+            put_cds(&mut p.bytes, s + 8, start);
+            put_cds(&mut p.bytes, s + 14, stop);
+        }
+    }
+}
+
 fn put_time(rng: &mut Rng, header: &mut [u8]) {
     let (mut a, mut b) = ((rng.below(65536), rng.below(86_400_000)), (rng.below(65536), rng.below(86_400_000)));
     if rng.one_in(4) {
@@ -61,8 +117,7 @@ fn put_time(rng: &mut Rng, header: &mut [u8]) {
         std::mem::swap(&mut a, &mut b);
     }
     for (from, (day, milli)) in [(8, a), (14, b)] {
-        header[from..from + 2].copy_from_slice(&(day as u16).to_be_bytes());
-        header[from + 2..from + 6].copy_from_slice(&(milli as u32).to_be_bytes());
+        put_cds(header, from, Time { day: day as u16, milli: milli as u32 });
         if rng.one_in(5) {
             header[from..from + 6].fill(0xff);
         }
@@ -107,6 +162,10 @@ fn value(rng: &mut Rng, kind: Kind, width: usize) -> Vec<u8> {
                 v[width - 1] = b'Z';
                 return v;
             }
+            if rng.one_in(8) {
+                let date = rng.pick(&leap::DATES);
+                return time_value(rng, date, (23, 59, 60), width);
+            }
             let mut year = rng.below(10_000);
             if rng.one_in(4) {
                 year = rng.pick(&[0, 4, 1900, 2000, 2024, 2100, 9999]);
@@ -115,12 +174,8 @@ fn value(rng: &mut Rng, kind: Kind, width: usize) -> Vec<u8> {
             let leap = year % 4 == 0 && (year % 100 != 0 || year % 400 == 0);
             let days = [31, if leap { 29 } else { 28 }, 31, 30, 31, 30, 31, 31, 30, 31, 30, 31][month - 1];
             let day = if rng.one_in(4) { days } else { 1 + rng.below(days) };
-            let (h, m, s) = (rng.below(24), rng.below(60), rng.below(60));
-            let mut v = format!("{year:04}{month:02}{day:02}{h:02}{m:02}{s:02}");
-            if width == 18 {
-                v += &format!("{:03}", rng.below(1000));
-            }
-            (v + "Z").into_bytes()
+            let of_day = (rng.below(24) as u8, rng.below(60) as u8, rng.below(60) as u8);
+            time_value(rng, Date { year: year as u16, month: month as u8, day: day as u8 }, of_day, width)
         }
     }
 }
@@ -261,7 +316,9 @@ pub fn damage(rng: &mut Rng, p: &mut Product, row: usize, k: usize) {
             let line = if rng.one_in(4) { RECORDS_LINE + rng.below(9) } else { rng.below(72) };
             let (at, width) = (STARTS[line] + 32, LINES[line].1);
             let v = &mut b[at..at + width];
+            let times = matches!(LINES[line].2, Kind::Time | Kind::LongTime);
             match rng.below(6) {
+                _ if times && rng.one_in(2) => v.copy_from_slice(&text_near_leap(rng, width)),
                 0 => v.fill(b'x'),
                 1 => v.fill(b' '),
                 2 => {
@@ -331,7 +388,16 @@ pub fn damage(rng: &mut Rng, p: &mut Product, row: usize, k: usize) {
         }
         10 => {
             let at = s + rng.pick(&[8usize, 14]);
-            match rng.below(5) {
+            match rng.below(8) {
+                5..=7 => {
+                    // At a day's end, and the other time the same or open.
+                    let end = Time { day: day_near_leap(rng), milli: rng.pick(&DAY_ENDS) };
+                    put_cds(b, s + 8, end);
+                    put_cds(b, s + 14, end);
+                    if rng.one_in(2) {
+                        b[at..at + 6].fill(0xff);
+                    }
+                }
                 0 => put_u32(b, at + 2, 86_400_000),
                 1 => put_u32(b, at + 2, 86_399_999),
                 2 => b[at..at + 6].copy_from_slice(&[255, 255, 255, 255, 255, 254]),
@@ -414,6 +480,9 @@ pub fn product(rng: &mut Rng, n: usize) -> (Product, Made) {
         }
         _ => build(rng, &shape),
     };
+    if rng.one_in(4) {
+        put_leap_seconds(rng, &mut p);
+    }
     let made = match turn {
         1..=16 => {
             let k = aim(rng, &p);
@@ -491,6 +560,9 @@ pub fn product_to_watch(rng: &mut Rng, n: usize) -> (Product, Made) {
     shape.pointers = rng.pick(&[63, 64, 65, 66, 70]);
     shape.others.push((8, 20 + rng.below(30)));
     let mut p = build(rng, &shape);
+    if rng.one_in(4) {
+        put_leap_seconds(rng, &mut p);
+    }
     let k = shape.sphr.map_or(1, |_| 2) + rng.pick(&[62, 63, 64, 64, 64, 65]).min(shape.pointers - 1);
     let (a, c) = (7 + rng.below(8), 7 + rng.below(8));
     let made = match rng.below(8) {

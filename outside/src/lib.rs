@@ -1,7 +1,8 @@
-//! An opinion from outside: 01 read independently. The judges twice, the rest once.
+//! An opinion from outside: 01, and of 02 what has been built, read independently. The judges twice, the rest once.
 pub mod fast;
 pub mod generate;
 pub mod json;
+pub mod leap;
 pub mod leaves;
 pub mod lines;
 pub mod plain;

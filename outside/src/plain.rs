@@ -1,6 +1,7 @@
 //! The judges straight from 01's table: every fault there is, then the least of those shown.
 use crate::lines::{Kind, LAST_TOTAL_LINE, LINES, MAIN_SIZE, RECORDS_LINE, SIZE_LINE, STARTS};
-use crate::{Arrival, Finished};
+use crate::values::Date;
+use crate::{leap, Arrival, Finished};
 
 /// Ordered as 01 gives them: the earliest shown, then the lowest number, then the lowest place.
 #[derive(Clone, Copy, Debug, PartialEq, Eq, PartialOrd, Ord)]
@@ -54,7 +55,7 @@ fn time(bytes: &[u8]) -> Time {
         return Time::Undefined;
     }
     let (day, milli) = (number(&bytes[0..2]), number(&bytes[2..6]));
-    if milli > 86_399_999 {
+    if milli > leap::last_milli(day as u16) as u64 {
         return Time::Bad;
     }
     Time::At(day, milli)
@@ -103,6 +104,7 @@ fn is_time(value: &[u8]) -> bool {
     }
     let part = |from: usize, to: usize| body[from..to].iter().fold(0u32, |n, b| n * 10 + (*b - b'0') as u32);
     let (year, month, day) = (part(0, 4), part(4, 6), part(6, 8));
+    let (hour, minute, second) = (part(8, 10), part(10, 12), part(12, 14));
     let leap = year % 4 == 0 && (year % 100 != 0 || year % 400 == 0);
     let days = match month {
         1 | 3 | 5 | 7 | 8 | 10 | 12 => 31,
@@ -111,7 +113,8 @@ fn is_time(value: &[u8]) -> bool {
         2 => 28,
         _ => 0,
     };
-    day >= 1 && day <= days && part(8, 10) <= 23 && part(10, 12) <= 59 && part(12, 14) <= 59
+    let last_second = leap::last_second(Date { year: year as u16, month: month as u8, day: day as u8 }, hour as u8, minute as u8);
+    day >= 1 && day <= days && hour <= 23 && minute <= 59 && second <= last_second as u32
 }
 
 fn is_value(value: &[u8], kind: Kind) -> bool {

@@ -1,5 +1,6 @@
 //! The repository's vectors, unpacked: VECTORS names their folder (tools/outside unpacks them to target/vectors).
 use crate::json::Json;
+use crate::{Arrival, Finished};
 use std::path::PathBuf;
 
 pub fn file(name: &str) -> PathBuf {
@@ -23,6 +24,56 @@ pub fn products() -> Vec<Vec<u8>> {
 /// What the vectors of the requests speak of, by its numbers.
 pub fn request_products() -> Vec<Vec<u8>> {
     packed("requests/products.bin")
+}
+
+/// A product of request Two, and what the judges say of it.
+pub struct Judged {
+    pub name: String,
+    pub bytes: Vec<u8>,
+    pub finished: Finished,
+    /// Each length at which the arrival judge's answer changes.
+    changes: Vec<(usize, Arrival)>,
+}
+
+impl Judged {
+    /// What is right for the first so many bytes.
+    pub fn arrival(&self, len: usize) -> Arrival {
+        self.changes.iter().rev().find(|change| change.0 <= len).expect("an answer at 0").1
+    }
+}
+
+pub fn two() -> Vec<Judged> {
+    let products = request_products();
+    let mut all = Vec::new();
+    for case in cases("requests/two.jsonl", 513) {
+        let Some(n) = case.get("product") else { continue };
+        let changes = case.get("at").unwrap().list().iter().map(|at| (at.list()[0].number() as usize, arrival(&at.list()[1..])));
+        all.push(Judged {
+            name: case.get("name").unwrap().to_string(),
+            bytes: products[n.number() as usize].clone(),
+            finished: finished(case.get("finished").unwrap().list()),
+            changes: changes.collect(),
+        });
+    }
+    assert_eq!(all.len(), 111);
+    all
+}
+
+fn arrival(answer: &[Json]) -> Arrival {
+    let [a, b] = [1, 2].map(|k: usize| answer[k].number() as u64);
+    match answer[0].text() {
+        "refused" => Arrival::Refused { number: a, place: b },
+        "waiting" => Arrival::Waiting { count: a, end: b },
+        other => panic!("{other}"),
+    }
+}
+
+fn finished(answer: &[Json]) -> Finished {
+    match answer[0].text() {
+        "refused" => Finished::Refused { number: answer[1].number() as u64, place: answer[2].number() as u64 },
+        "accepted" => Finished::Accepted { count: answer[1].number() as u64 },
+        other => panic!("{other}"),
+    }
 }
 
 /// Each with its length before it.

@@ -1,6 +1,7 @@
 //! Plain and fast agree, on generated cases and with the vectors.
 use outside::generate::{build, damage, prefix, product, shape, Made, Rng};
-use outside::{fast, plain, seen, vectors, Arrival, Finished};
+use outside::leaves::read_header;
+use outside::{fast, leap, plain, seen, vectors, Arrival, Finished};
 
 fn cases() -> usize {
     seen::cases(200_000)
@@ -8,11 +9,17 @@ fn cases() -> usize {
 
 const KEPT: u32 = 0xdead_beef;
 
+/// Whether a record of an accepted product has a time in a leap second.
+fn has_leap_second(bytes: &[u8], starts: &[u32]) -> bool {
+    let headers = starts.iter().map(|s| read_header(bytes, *s as usize).unwrap());
+    headers.flat_map(|h| [h.start, h.stop]).flatten().any(|t| t.milli > leap::USUAL_LAST_MILLI)
+}
+
 #[test]
 fn generated() {
     let mut rng = Rng(1);
     let (mut arrivals, mut finishes, mut waits, mut accepts) = ([0u32; 24], [0u32; 24], 0, 0);
-    let mut unlike_row = 0;
+    let (mut unlike_row, mut leap_seconds) = (0, 0);
     // (given, beaten) of faults shown at one length
     let mut ties = std::collections::BTreeMap::<(u64, u64), u32>::new();
     for n in 0..cases() {
@@ -43,16 +50,20 @@ fn generated() {
                     finishes[number as usize] += 1;
                     assert!(j.iter().all(|x| *x == KEPT));
                 }
-                Finished::Accepted { .. } => accepts += 1,
+                Finished::Accepted { count } => {
+                    accepts += 1;
+                    leap_seconds += has_leap_second(bytes, &i[..count as usize]) as u32;
+                }
             }
         }
     }
     println!("cases {}: waiting {waits}, accepted {accepts}, of a row but refused by another number {unlike_row}", cases());
+    println!("accepted with a leap second: {leap_seconds}");
     println!("arrival refusals by number  {arrivals:?}");
     println!("finished refusals by number {finishes:?}");
     println!("ties (given, beaten): {ties:?}");
     if cases() >= 20_000 {
-        assert!((1..=16).all(|k| arrivals[k] > 0) && (1..=18).all(|k| finishes[k] > 0));
+        assert!((1..=16).all(|k| arrivals[k] > 0) && (1..=18).all(|k| finishes[k] > 0) && leap_seconds > 0);
     }
 }
 
@@ -137,4 +148,21 @@ fn every_vector() {
     }
     assert!(lines.next().is_none());
     println!("vectors: {} products, {prefixes} prefixes", products.len());
+}
+
+/// The products of request Two at every length.
+#[test]
+fn two() {
+    for case in vectors::two() {
+        let (bytes, name) = (&case.bytes, &case.name);
+        for l in 0..=bytes.len() {
+            let right = case.arrival(l);
+            assert_eq!(plain::arrival(&bytes[..l]), right, "plain, {name} at {l}");
+            assert_eq!(fast::arrival(&bytes[..l]), right, "fast, {name} at {l}");
+        }
+        let (mut i, mut j) = (vec![KEPT; bytes.len() / 20], vec![KEPT; bytes.len() / 20]);
+        assert_eq!(plain::finished(bytes, &mut i), case.finished, "plain, {name}");
+        assert_eq!(fast::finished(bytes, &mut j), case.finished, "fast, {name}");
+        assert_eq!(i, j, "{name}");
+    }
 }

@@ -67,3 +67,13 @@ fn every_vector() {
         }
     }
 }
+
+#[test]
+fn two() {
+    for case in vectors::two() {
+        for l in 0..=case.bytes.len() {
+            assert_eq!(boundary::arrival(&case.bytes[..l]), case.arrival(l), "{} at {l}", case.name);
+        }
+        assert_eq!(same_finished(&case.bytes, case.bytes.len() / 20), case.finished, "{}", case.name);
+    }
+}

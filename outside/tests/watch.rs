@@ -150,6 +150,17 @@ fn judge_vectors() {
     println!("watch: {bytes} parts of one byte; {known} products of at most 64 IPRs");
 }
 
+/// The products of request Two, a byte at a time.
+#[test]
+fn two() {
+    for case in vectors::two() {
+        let mut watches = Watches::new();
+        for l in 1..=case.bytes.len() {
+            watches.feed(&case.bytes[l - 1..l], case.arrival(l), &format!("{} at {l}", case.name));
+        }
+    }
+}
+
 /// As long as a product may be, with a pointer to its last 20 bytes; all between is payload.
 #[test]
 fn longest() {

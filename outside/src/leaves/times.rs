@@ -1,12 +1,11 @@
 //! Short CDS times, and times as text.
 use super::{big_endian, part, refused, write};
+use crate::leap;
 use crate::values::{Date, Moment, Refusal, Time};
 use std::cmp::Ordering;
 
-const LAST_MILLI: u32 = 86_399_999;
-
 fn checked(time: Time) -> Result<Time, Refusal> {
-    if time.milli > LAST_MILLI {
+    if time.milli > leap::last_milli(time.day) {
         return refused(21, 0);
     }
     Ok(time)
@@ -37,12 +36,12 @@ pub fn time_order(time: Option<Time>, other: Option<Time>) -> Result<Ordering, R
     Ok((a.day, a.milli).cmp(&(b.day, b.milli)))
 }
 
-fn is_leap(year: u16) -> bool {
+const fn is_leap(year: u16) -> bool {
     year % 4 == 0 && (year % 100 != 0 || year % 400 == 0)
 }
 
 /// 0 for a month that is none.
-fn days_of_month(year: u16, month: u8) -> u8 {
+const fn days_of_month(year: u16, month: u8) -> u8 {
     match month {
         2 => 28 + is_leap(year) as u8,
         4 | 6 | 9 | 11 => 30,
@@ -56,15 +55,12 @@ pub fn is_date(d: Date) -> bool {
 }
 
 pub(super) fn is_moment(m: &Moment) -> bool {
-    is_date(Date { year: m.year, month: m.month, day: m.day })
-        && m.hour <= 23
-        && m.minute <= 59
-        && m.second <= 59
-        && m.milli <= 999
+    let date = Date { year: m.year, month: m.month, day: m.day };
+    is_date(date) && m.hour <= 23 && m.minute <= 59 && m.second <= leap::last_second(date, m.hour, m.minute) && m.milli <= 999
 }
 
 /// Year, month and day of a day from 1 January 2000, month by month.
-pub fn date_of(day: u16) -> Date {
+pub const fn date_of(day: u16) -> Date {
     let (mut year, mut month, mut left) = (2000, 1, day as u32);
     while left >= days_of_month(year, month) as u32 {
         left -= days_of_month(year, month) as u32;
@@ -120,13 +116,15 @@ pub(super) fn read_moment(text: &[u8]) -> Result<Option<Moment>, Refusal> {
 fn moment_of(time: Time) -> Moment {
     let Date { year, month, day } = date_of(time.day);
     let seconds = time.milli / 1000;
+    // A leap second is of the day's last minute.
+    let minutes = (seconds / 60).min(24 * 60 - 1);
     Moment {
         year,
         month,
         day,
-        hour: (seconds / 3600) as u8,
-        minute: (seconds / 60 % 60) as u8,
-        second: (seconds % 60) as u8,
+        hour: (minutes / 60) as u8,
+        minute: (minutes % 60) as u8,
+        second: (seconds - minutes * 60) as u8,
         milli: (time.milli % 1000) as u16,
     }
 }

@@ -1,30 +1,79 @@
 // Included for each of the modules that are tried.
 use super::*;
 use outside::generate::{build, shape, Rng};
-use outside::lines::STARTS;
+use outside::lines::{Kind, LINES, STARTS};
 use outside::values::Which;
 
+/// Where a case has the answer of request Two beside the one before it, the former holds.
 #[track_caller]
 fn check(case: &Json, key: &str, ours: String) {
-    assert_eq!(ours, case.get(key).unwrap().to_string(), "{key} of {case}");
+    let with_leap = case.get(&format!("leap_{key}")).or(case.get("leap"));
+    assert_eq!(ours, with_leap.or(case.get(key)).unwrap().to_string(), "{key} of {case}");
+}
+
+/// A case of bytes, text or order.
+fn time(case: &Json) {
+    if let Some(bytes) = case.get("bytes").map(Json::hex) {
+        check(case, "read", said(tried::read_time(&bytes, 0), |t| or_undefined(t, word_time)));
+        if case.get("long").is_some() {
+            check(case, "long", wrote(21, |room| tried::time_text(room, as_time(&bytes))));
+        }
+        if case.get("write").is_some() {
+            check(case, "write", wrote(9, |room| tried::write_time(room, as_time(&bytes))));
+        }
+    } else if let Some(text) = case.get("text").map(Json::hex) {
+        check(case, "cds", said(tried::text_time(&text, 0), |t| or_undefined(t, word_time)));
+    } else {
+        let times = case.get("order").unwrap().list();
+        let time = |k: usize| times[k].some().map(|t| Time { day: t.list()[0].number() as u16, milli: t.list()[1].number() as u32 });
+        check(case, "answer", said(tried::time_order(time(0), time(1)), word_order));
+    }
 }
 
 #[test]
 fn times() {
-    for case in cases("leaves/times.jsonl", 868) {
-        if let Some(bytes) = case.get("bytes").map(Json::hex) {
-            check(&case, "read", said(tried::read_time(&bytes, 0), |t| or_undefined(t, word_time)));
-            if case.get("long").is_some() {
-                check(&case, "long", wrote(21, |room| tried::time_text(room, as_time(&bytes))));
-            }
-        } else if let Some(text) = case.get("text").map(Json::hex) {
-            check(&case, "cds", said(tried::text_time(&text, 0), |t| or_undefined(t, word_time)));
+    cases("leaves/times.jsonl", 868).iter().for_each(time);
+}
+
+/// A time line that is written into a room.
+fn time_line(case: &Json, room: usize) -> String {
+    let (k, value) = (case.get("field").unwrap().number() as usize, case.get("value").unwrap());
+    wrote(room, |room| tried::write_time_line(room, k, value.some().map(|m| as_moment(m.list()))))
+}
+
+/// Request Two; the judges' part of its products is in `agree`, `boundary` and `watch`.
+#[test]
+fn two() {
+    let (products, mut leap_seconds) = (request_products(), 0);
+    for case in cases("requests/two.jsonl", 513) {
+        if let Some(n) = case.get("product") {
+            leap_seconds += time_fields(&products[n.number() as usize], &case);
+        } else if case.get("op").is_some() {
+            check(&case, "answer", time_line(&case, 120));
         } else {
-            let times = case.get("order").unwrap().list();
-            let time = |k: usize| times[k].some().map(|t| Time { day: t.list()[0].number() as u16, milli: t.list()[1].number() as u32 });
-            check(&case, "answer", said(tried::time_order(time(0), time(1)), word_order));
+            time(&case);
         }
     }
+    assert!(leap_seconds > 20);
+}
+
+/// Each time field of an accepted product, written again, is the line it was read from. Gives how many have second 60.
+fn time_fields(product: &[u8], case: &Json) -> usize {
+    let extent = tried::extent(product);
+    check(case, "finished", said(extent, |count| format!("[accepted,{}]", count.unwrap())));
+    if extent.is_err() {
+        return 0;
+    }
+    let (mut room, mut leap_seconds) = ([0; 51], 0);
+    for k in (0..72).filter(|k| matches!(LINES[*k].2, Kind::Time | Kind::LongTime)) {
+        let (moment, line) = (tried::time_field(product, k).unwrap(), &product[STARTS[k]..STARTS[k + 1]]);
+        if let Some(m) = moment {
+            assert_eq!(tried::write_time_line(&mut room, k, moment), Ok(line.len()), "field {k} of {case}");
+            assert_eq!(room[..line.len()], *line, "field {k} of {case}");
+            leap_seconds += (m.second == 60) as usize;
+        }
+    }
+    leap_seconds
 }
 
 #[test]
@@ -80,7 +129,7 @@ fn lines() {
         let value = case.get("value").unwrap();
         let ours = match case.get("op").unwrap().text() {
             "text" => wrote(room, |room| tried::write_text_line(room, k, &value.hex())),
-            "time" => wrote(room, |room| tried::write_time_line(room, k, value.some().map(|m| as_moment(m.list())))),
+            "time" => time_line(&case, room),
             "number" => match value.some().map(Json::integer) {
                 // No i64 holds it (F4).
                 Some(None) => {

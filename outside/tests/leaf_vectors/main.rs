@@ -1,8 +1,8 @@
-//! The leaves, and with the feature the boundary, against the vectors in VECTORS/leaves. Where the two disagree, this says which of them the
-//! vectors are with.
+//! The leaves, and with the feature the boundary, against the vectors in VECTORS/leaves and those of request Two. Where the two disagree,
+//! this says which of them the vectors are with.
 use outside::json::Json;
 use outside::values::{GroundPoint, Header, Moment, Reading, Refusal, Scaled, Time};
-use outside::vectors::cases;
+use outside::vectors::{cases, request_products};
 use std::cmp::Ordering;
 
 mod leaves {

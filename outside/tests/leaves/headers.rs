@@ -2,9 +2,9 @@ use super::times::{any_time, six, value};
 use super::{length, lent, same_read, same_written, CASES};
 use outside::boundary::{self, form, raw};
 use outside::generate::{Rng, GROUPS};
-use outside::leaves;
 use outside::seen::{cases, Seen};
-use outside::values::Header;
+use outside::values::{Header, Time};
+use outside::{leap, leaves};
 
 /// Class, group, subclass and version, and a size.
 fn any_kind(rng: &mut Rng) -> ([u8; 4], u32) {
@@ -14,6 +14,10 @@ fn any_kind(rng: &mut Rng) -> ([u8; 4], u32) {
     let size = rng.next() as u32;
     let size = rng.pick(&[size, size, size, 20, 21, 27, 3307, u32::MAX, 19, 0]);
     ([class, group, subclass, version], size)
+}
+
+fn in_leap_second(time: &Option<Time>) -> bool {
+    time.is_some_and(|t| t.milli > leap::USUAL_LAST_MILLI)
 }
 
 #[test]
@@ -26,13 +30,14 @@ fn read_header() {
         let ours = leaves::read_header(&bytes, at);
         same_read(&bytes, &ours, |bytes| boundary::read_header(bytes, at), at);
         seen.note(&ours, |h| match (h.start, h.stop) {
+            (start, stop) if [start, stop].iter().any(in_leap_second) => "a leap second",
             (Some(_), Some(_)) => "both times",
             (Some(_), None) => "a start",
             (None, Some(_)) => "a stop",
             (None, None) => "no time",
         });
     }
-    seen.complete(&["both times", "a start", "a stop", "no time"], &[20, 21]);
+    seen.complete(&["a leap second", "both times", "a start", "a stop", "no time"], &[20, 21]);
 }
 
 #[test]

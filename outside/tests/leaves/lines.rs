@@ -1,6 +1,6 @@
 use super::{flag, length, noise, same_written, CASES};
 use outside::boundary::{self, form, raw};
-use outside::generate::Rng;
+use outside::generate::{date_near_leap, Rng, LEAP_LIKE};
 use outside::leaves;
 use outside::lines::{Kind, LINES};
 use outside::seen::{cases, Seen};
@@ -93,8 +93,18 @@ fn write_number_line() {
     seen.complete(&["defined", "undefined"], &[18, 22]);
 }
 
+/// A leap second, or what is like it.
+fn leap_moment(rng: &mut Rng) -> Moment {
+    let (date, (hour, minute, second)) = (date_near_leap(rng), rng.pick(&LEAP_LIKE));
+    let milli = rng.pick(&[0, 0, 1, 999, 1000]);
+    Moment { year: date.year, month: date.month, day: date.day, hour, minute, second, milli }
+}
+
 /// A moment, often with one part at an edge or beyond it.
 fn any_moment(rng: &mut Rng) -> Moment {
+    if rng.one_in(4) {
+        return leap_moment(rng);
+    }
     let any = rng.next();
     let mut m = Moment {
         year: rng.below(10_000) as u16,
@@ -136,9 +146,11 @@ fn write_time_line() {
         let long = LINES.get(k).is_some_and(|line| line.2 == Kind::LongTime);
         seen.note(&ours, |_| match (moment, long) {
             (None, _) => "undefined",
+            (Some(m), false) if m.second == 60 => "short leap second",
+            (Some(m), true) if m.second == 60 => "long leap second",
             (_, false) => "short",
             (_, true) => "long",
         });
     }
-    seen.complete(&["undefined", "short", "long"], &[18, 22]);
+    seen.complete(&["undefined", "short", "short leap second", "long", "long leap second"], &[18, 22]);
 }

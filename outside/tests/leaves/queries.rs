@@ -104,9 +104,9 @@ fn time_field() {
         let k = any_field(rng, &TIMES);
         let ours = leaves::time_field(bytes, k);
         assert_eq!(boundary::time_field(bytes, k), ours, "field {k} at {}", bytes.len());
-        seen.note(&ours, name);
+        seen.note(&ours, |moment| if moment.is_some_and(|m| m.second == 60) { "leap second" } else { name(moment) });
     });
-    seen.complete(&["defined", "undefined"], &FIELD_REFUSALS);
+    seen.complete(&["defined", "leap second", "undefined"], &FIELD_REFUSALS);
 }
 
 /// A text as the place where it stands.

@@ -1,14 +1,17 @@
 use super::{flag, length, lent, same_read, same_written, CASES};
 use outside::boundary::{self, form, raw};
-use outside::generate::Rng;
-use outside::leaves;
+use outside::generate::{date_near_leap, day_near_leap, Rng, DAY_ENDS, LEAP_LIKE};
 use outside::seen::{cases, Seen};
 use outside::values::{Date, Time};
+use outside::{leap, leaves};
 
 /// A flag, a day and a millisecond. Where the flag is 0 the others are any.
 pub type Flat = (u8, u16, u32);
 
 pub fn any_time(rng: &mut Rng) -> Flat {
+    if rng.one_in(4) {
+        return (flag(rng), day_near_leap(rng), rng.pick(&DAY_ENDS));
+    }
     let day = rng.next() as u16;
     let day = rng.pick(&[day, day, day, 0, 1, 58, 59, 60, 365, 366, 36_583, 36_584, 65_534, 65_535]);
     (flag(rng), day, any_milli(rng))
@@ -40,11 +43,14 @@ pub fn six(rng: &mut Rng) -> Vec<u8> {
     bytes
 }
 
+/// What a run over times must reach.
+const NAMES: [&str; 3] = ["defined", "leap second", "undefined"];
+
 fn name(time: &Option<Time>) -> &'static str {
-    if time.is_some() {
-        "defined"
-    } else {
-        "undefined"
+    match time {
+        Some(t) if t.milli > leap::USUAL_LAST_MILLI => "leap second",
+        Some(_) => "defined",
+        None => "undefined",
     }
 }
 
@@ -101,7 +107,7 @@ fn read_time() {
         same_read(&bytes, &ours, |bytes| boundary::read_time(bytes, at), at);
         seen.note(&ours, name);
     }
-    seen.complete(&["defined", "undefined"], &[20, 21]);
+    seen.complete(&NAMES, &[20, 21]);
 }
 
 #[test]
@@ -115,7 +121,7 @@ fn write_time() {
         let ours = same_written(&mut rng, len, &|room| leaves::write_time(room, time), &[&wrapper, &direct], &flat);
         seen.note(&ours, |_| name(&time));
     }
-    seen.complete(&["defined", "undefined"], &[18, 21]);
+    seen.complete(&NAMES, &[18, 21]);
 }
 
 /// Another time, often of the same day or the same altogether.
@@ -156,11 +162,11 @@ fn time_text() {
         let ours = same_written(&mut rng, len, &|room| leaves::time_text(room, time), &[&wrapper, &direct], &flat);
         seen.note(&ours, |_| name(&time));
     }
-    seen.complete(&["defined", "undefined"], &[18, 21]);
+    seen.complete(&NAMES, &[18, 21]);
 }
 
-/// 18 bytes of long text: a date in the days or beside them, often with a part or a byte that is wrong.
-fn long_text(rng: &mut Rng) -> Vec<u8> {
+/// Year to second: a date in the days or beside them, often with a part that is wrong.
+fn any_parts(rng: &mut Rng) -> [usize; 6] {
     let any_year = rng.below(10_000);
     let near = 2000 + rng.below(180);
     let year = rng.pick(&[near, near, near, near, 0, 1900, 1999, 2000, 2100, 2179, 2180, 9999, any_year]);
@@ -173,6 +179,19 @@ fn long_text(rng: &mut Rng) -> Vec<u8> {
         0 => rng.pick(&[(24, 0, 0), (23, 59, 59), (23, 59, 60), (0, 60, 0), (99, 99, 99)]),
         _ => (rng.below(24), rng.below(60), rng.below(60)),
     };
+    [year, month, day, hour, minute, second]
+}
+
+/// A leap second, or what is like it.
+fn leap_parts(rng: &mut Rng) -> [usize; 6] {
+    let (date, (hour, minute, second)) = (date_near_leap(rng), rng.pick(&LEAP_LIKE));
+    let rest = [date.month, date.day, hour, minute, second].map(usize::from);
+    [date.year as usize, rest[0], rest[1], rest[2], rest[3], rest[4]]
+}
+
+/// 18 bytes of long text, often with a part or a byte that is wrong.
+fn long_text(rng: &mut Rng) -> Vec<u8> {
+    let [year, month, day, hour, minute, second] = if rng.one_in(4) { leap_parts(rng) } else { any_parts(rng) };
     let mut text = format!("{year:04}{month:02}{day:02}{hour:02}{minute:02}{second:02}{:03}Z", rng.below(1000)).into_bytes();
     match rng.below(16) {
         0 => text = b"xxxxxxxxxxxxxxxxxx".to_vec(),
@@ -195,19 +214,20 @@ fn text_time() {
         same_read(&bytes, &ours, |bytes| boundary::text_time(bytes, at), at);
         seen.note(&ours, name);
     }
-    seen.complete(&["defined", "undefined"], &[20, 21]);
+    seen.complete(&NAMES, &[20, 21]);
 }
 
-/// Each of the days, and the text of its first and last millisecond there and back.
+/// Each of the days, and the text of its first millisecond and of its last ones there and back.
 #[test]
 fn every_day() {
-    for day in 0..=u16::MAX {
-        for milli in [0, 86_399_999] {
-            let time = Some(Time { day, milli });
-            let (mut ours, mut theirs) = ([0; 18], [1; 18]);
-            assert_eq!(leaves::time_text(&mut ours, time), Ok(18));
-            assert_eq!(boundary::time_text(&mut theirs, time), Ok(18));
-            assert_eq!(ours, theirs, "day {day}");
+    for (day, milli) in (0..=u16::MAX).flat_map(|day| [0].into_iter().chain(DAY_ENDS).map(move |milli| (day, milli))) {
+        let time = Some(Time { day, milli });
+        let (mut ours, mut theirs) = ([0; 18], [0; 18]);
+        let answer = leaves::time_text(&mut ours, time);
+        assert_eq!(answer.is_ok(), milli <= leap::last_milli(day));
+        assert_eq!(boundary::time_text(&mut theirs, time), answer, "{time:?}");
+        assert_eq!(ours, theirs, "{time:?}");
+        if answer.is_ok() {
             assert_eq!(leaves::text_time(&ours, 0), Ok(time));
             assert_eq!(boundary::text_time(&ours, 0), Ok(time));
         }

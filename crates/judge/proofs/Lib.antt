@@ -6,7 +6,7 @@ pub mod JudgeLaws
 pub mod TurnLaws
 pub mod CountLaws
 pub mod Covering
-pub mod PaceLaws
+pub mod RunLaws
 pub mod TimesLaws
 pub mod PendingLaws
 pub mod SweepLaws

@@ -2,5 +2,5 @@ pub mod Table
 pub mod Step
 pub mod Turning
 pub mod Extent
-pub mod Pace
+pub mod Run
 pub mod Pending

@@ -2,9 +2,6 @@
 use crate::header::is_part;
 use crate::header::rank;
 use crate::header::word;
-use crate::pace::no_pace;
-use crate::pace::pace_of;
-use crate::pace::passes;
 use crate::pending::ease;
 use crate::pending::no_hold;
 use crate::pointers::Body;
@@ -13,6 +10,7 @@ use crate::pointers::Settled;
 use crate::pointers::close_record;
 use crate::pointers::no_pointers;
 use crate::pointers::settle;
+use crate::run::run_of;
 use calendar::Refusal;
 use mphr::faults::HeaderFault;
 use text::Number;
@@ -173,17 +171,10 @@ fn walk_on(s: &[u8], totals: &[usize], held: &mut [[u32; 3]], d: usize) -> Arriv
     let mut at: usize = 3307;
     let mut prev: u8 = 1;
     let mut w = no_pointers(d);
-    let mut pace = no_pace();
     let mut hold = no_hold(d);
     // Once: a const array is copied where it is named.
     let follow = record::follow::FOLLOW;
     while at < d {
-        if passes(s, &follow, totals, &tally, pace, at, prev) {
-            tally[prev as usize] += 1;
-            count += 1;
-            at += pace.size;
-            continue;
-        }
         hold = ease(s, held, hold, w, at, d);
         w.due = hold.due;
         match turn(s, &follow, totals, &tally, d, count, at, prev, w) {
@@ -195,10 +186,21 @@ fn walk_on(s: &[u8], totals: &[usize], held: &mut [[u32; 3]], d: usize) -> Arriv
                 class,
                 pointers,
             } => {
-                pace = pace_of(s, class, to - at, pointers.due, d);
-                tally[class as usize] += 1;
-                count += 1;
-                at = to;
+                let k = class as usize;
+                let n = tally[k] + 1;
+                let run = run_of(
+                    s,
+                    &follow,
+                    class,
+                    to - at,
+                    to,
+                    pointers.due,
+                    d,
+                    totals[k] - n,
+                );
+                tally[k] = n + run.count;
+                count += 1 + run.count;
+                at = run.end;
                 prev = class;
                 w = pointers;
             }

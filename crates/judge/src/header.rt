@@ -136,35 +136,3 @@ pub(crate) fn rank(
 {
     rank_in(s, follow, totals, tally, d - at, at, prev)
 }
-
-// The most headers that are read ahead.
-const AHEAD: usize = 24;
-
-// Records are mostly of one size, and then their headers can be read ahead side by side, which brings them from memory together;
-// `left` of those read are still ahead. A hint: no answer depends on it. (The watch asks; here a record like the last one passes without
-// waiting for its size.)
-pub fn look_ahead(s: &[u8], at: usize, left: usize) -> usize {
-    if left != 0 {
-        return left - 1;
-    }
-    if s.len() < at {
-        return 0;
-    }
-    if s.len() - at < 8 {
-        return 0;
-    }
-    let size = word(s, at + 4);
-    let mut n: usize = 0;
-    let mut i = at;
-    while n < AHEAD {
-        if s.len() - i < size + 8 {
-            return n;
-        }
-        i += size;
-        if word(s, i + 4) != size {
-            return n;
-        }
-        n += 1;
-    }
-    n
-}

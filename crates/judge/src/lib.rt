@@ -3,8 +3,8 @@ pub use calendar::Refusal;
 
 pub mod arrival;
 mod header;
-mod pace;
 pub mod parts;
 mod pending;
 mod pointers;
+mod run;
 mod times;

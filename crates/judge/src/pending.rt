@@ -2,11 +2,11 @@
 // asks these and not all of them.
 use crate::header::triple;
 use crate::header::word;
-use crate::pace::lesser;
 use crate::pointers::ANY;
 use crate::pointers::Look;
 use crate::pointers::Pointers;
 use crate::pointers::look_at;
+use crate::run::lesser;
 ghost use mathlib.Core.Path.{_≡_};
 ghost use mathlib.Core.Bool.{true, false};
 ghost use Prim.Native.Nat.{_+_, _≤_, _<_};

@@ -11,11 +11,13 @@ use crate::under_way::is_aim;
 use crate::under_way::keep;
 use calendar::Refusal;
 use judge::arrival::Arrival;
+use judge::parts::Run;
 use judge::parts::header_rank;
 use judge::parts::is_fewer;
 use judge::parts::is_part;
 use judge::parts::kind_in;
-use judge::parts::look_ahead;
+use judge::parts::lesser;
+use judge::parts::run_of;
 use judge::parts::word_in;
 use mphr::faults::HeaderFault;
 ghost use mathlib.Core.Path.{_≡_};
@@ -26,7 +28,7 @@ ghost use Rattle.record.specs.Header.{isClass};
 ghost use Rattle.record.specs.Follow.{Ruled};
 ghost use Rattle.judge.specs.Turning.{refusedAt, FewerIs};
 ghost use Rattle.watch.specs.Stands.{Fresh, FedIs};
-ghost use Rattle.watch.specs.Turning.{TurnIs, OneMoreIs, SaneIs, SaneWatch, WalkIs, AdvanceIs};
+ghost use Rattle.watch.specs.Turning.{TurnIs, RunInIs, OneMoreIs, SaneIs, SaneWatch, WalkIs, AdvanceIs};
 
 #[repr(C)]
 pub struct Watch {
@@ -194,22 +196,38 @@ fn ahead(at: usize, base: usize, len: usize) -> usize
     at - base
 }
 
-// One more record of a class, whose total has six digits.
-fn one_more(n: usize) -> usize
-    ensures { λ r. ⌜ (n < 1000000 → r ≡ n + 1) ⌝ }
+// The run of records like the last one, which ends at `to`, as far as it is in the part that starts at byte `base`.
+fn run_in(
+    part: &[u8],
+    follow: &[[bool; 8]; 8],
+    base: usize,
+    class: u8,
+    size: usize,
+    to: usize,
+    due: usize,
+    d: usize,
+    most: usize,
+) -> Run
+    requires { ⌜ (to ≤ d) × (d ≤ 2147483647) × Ruled (now follow) ⌝ }
+    ensures { λ r. ⌜ RunInIs (now (part .entry)) base class size to due d most r ⌝ }
 {
-    if n < 1000000 {
-        return n + 1;
+    if lesser(to, due) < base {
+        return Run { count: 0, end: to };
     }
-    n
-}
-
-// Headers of the part are read ahead, as in the arrival judge: no answer depends on it.
-fn hint(part: &[u8], at: usize, base: usize, near: usize) -> usize {
-    if at < base {
-        return near;
+    let run = run_of(
+        part,
+        follow,
+        class,
+        size,
+        to - base,
+        due - base,
+        d - base,
+        most,
+    );
+    Run {
+        count: run.count,
+        end: base + run.end,
     }
-    look_ahead(part, at - base, near)
 }
 
 // The records of a part, the first byte of which is byte `base` of what was fed.
@@ -219,13 +237,11 @@ fn walk(w: Watch, part: &[u8], base: usize) -> Fed
 {
     let mut v = w;
     let len = base + part.len();
-    let mut near: usize = 0;
     // Once: a const array is copied where it is named.
     let follow = record::follow::FOLLOW;
     while v.at < v.d {
         let d = v.d;
         let at = v.at;
-        near = hint(part, at, base, near);
         let held = v.have;
         let have = fill(&mut v.under, held, part, ahead(at + held, base, part.len()));
         let due = v.due;
@@ -266,10 +282,12 @@ fn walk(w: Watch, part: &[u8], base: usize) -> Fed
             }
             Turned::Pass { to, class, due } => {
                 let k = class as usize;
-                let n = v.tally[k];
-                v.tally[k] = one_more(n);
-                v.count += 1;
-                v.at = to;
+                let n = v.tally[k] + 1;
+                let most = v.totals[k] - n;
+                let run = run_in(part, &follow, base, class, to - at, to, due, d, most);
+                v.tally[k] = n + run.count;
+                v.count += 1 + run.count;
+                v.at = run.end;
                 v.prev = class;
                 v.due = due;
                 v.have = 0;
@@ -320,15 +338,6 @@ fn walk(w: Watch, part: &[u8], base: usize) -> Fed
             end: d,
         },
     }
-}
-
-fn lesser(a: usize, b: usize) -> usize
-    ensures { λ r. ⌜ (r ≤ a) × (r ≤ b) ⌝ }
-{
-    if a < b {
-        return a;
-    }
-    b
 }
 
 // While the main header is under way.

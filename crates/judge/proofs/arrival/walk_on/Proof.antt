@@ -1,37 +1,38 @@
--- `judge::arrival::walk_on` meets its contract: the invariant is what `Turn`, `Kept` and `HoldIs` say at each record. Assumes nothing.
+-- `judge::arrival::walk_on` meets its contract: the invariant is what `Turn`, `Kept` and `HoldIs` say at each record; a turn, and then the run of
+-- those like it by the law of runs. Assumes nothing.
 use Prim.Native.Nat.{ℕ, _+_, _-_, _≤_, _<_}
 use native.Mathlib.Omega.{arith}
 use denote.Ref.{now}
 use borrow.Author.Needs.{needs}
 use mathlib.Core.List.{List}
 use mathlib.Core.Path.{_≡_, refl, sym, subst, _∙_}
-use lib.ListN.{length}
+use lib.ListN.{length, getD}
+use lib.Seq.{getD-set-same}
 use Rattle.record.specs.Follow.{firstAfter, mayFollow, Ruled}
 use Rattle.record.proofs.FollowLaws.{ruled}
-use Rattle.judge.specs.Table.{Site, site}
+use Rattle.judge.specs.Table.{Site, site, oneMore}
 use Rattle.judge.specs.Step.{Kept}
 use Rattle.judge.specs.Turning.{Turn, Ready, Gone, Walking, TurnedIs}
-use Rattle.judge.specs.Pace.{Paced}
 use Rattle.judge.specs.Pending.{HoldIs}
 use Rattle.judge.specs.declared.pointers.Pointers.{Pointers}
 use Rattle.judge.specs.declared.arrival.Turned.{Turned}
 use Rattle.judge.specs.declared.arrival.Turned.the-variants.{Stop, Go}
 use Rattle.judge.proofs.JudgeLaws.{turn-first}
 use Rattle.judge.proofs.TurnLaws.{kept-first, over-at}
-use Rattle.judge.proofs.PaceLaws.{no-pace, like-on}
+use Rattle.judge.proofs.RunLaws.{run-le, run-within, run-tally, After, run-on}
 use Rattle.judge.proofs.EaseLaws.{later, none-held, due-at, kept-eased}
 use Rattle.judge.proofs.arrival.walk_on.Statement.{statement}
 use Rattle.judge.proofs.arrival.walk_on.Tie as tie
 
 abbrev Inv-loop : tie.InvT-loop
-Inv-loop s totals held₀ d tally₀ count₀ at₀ prev₀ w₀ pace₀ hold₀ follow held tally count at prev w pace hold =
-    Turn s (site count at prev tally) × Kept s at w × Ruled follow × Paced s prev (w .due) d pace × HoldIs s at held hold × (length held ≡ length held₀)
+Inv-loop s totals held₀ d tally₀ count₀ at₀ prev₀ w₀ hold₀ follow held tally count at prev w hold =
+    Turn s (site count at prev tally) × Kept s at w × Ruled follow × HoldIs s at held hold × (length held ≡ length held₀)
 
 abbrev μ-loop : tie.MeasureT-loop
-μ-loop s totals held₀ d tally₀ count₀ at₀ prev₀ w₀ pace₀ hold₀ follow held tally count at prev w pace hold = d - at
+μ-loop s totals held₀ d tally₀ count₀ at₀ prev₀ w₀ hold₀ follow held tally count at prev w hold = d - at
 
 abbrev St : tie.At-loop Inv-loop μ-loop → tie.Start Inv-loop μ-loop
-St c = c .before .before .before .before .before .before
+St c = c .before .before .before .before .before
 
 abbrev a : tie.At-loop Inv-loop μ-loop → List ℕ
 a c = now (St c .args .s)
@@ -39,25 +40,18 @@ a c = now (St c .args .s)
 abbrev d : tie.At-loop Inv-loop μ-loop → ℕ
 d c = St c .args .d
 
-walking : (c : tie.At-loop Inv-loop μ-loop) → Walking (a c) (now (St c .args .totals)) (d c)
+abbrev ts : tie.At-loop Inv-loop μ-loop → List ℕ
+ts c = now (St c .args .totals)
+
+walking : (c : tie.At-loop Inv-loop μ-loop) → Walking (a c) (ts c) (d c)
 walking c = St c .pre
 
 abbrev x : tie.At-loop Inv-loop μ-loop → Site
 x c = site (c .loop .count) (c .loop .at) (c .loop .prev) (c .loop .tally)
 
-ready : (c : tie.At-loop Inv-loop μ-loop) → c .loop .at < d c → {w : Pointers} → Kept (a c) (c .loop .at) w → Ready (a c) (d c) (x c) (now (St c .args .totals)) w
-ready c h k = let y = walking c in record { d-is = y .d-is; small = y .small; room = h; totals = y .totals; turn = c .loop .inv .0; kept = k }
-
--- a record like the last one
-abbrev P : tie.Then1 Inv-loop μ-loop → tie.At-loop Inv-loop μ-loop
-P c = c .before .before .before .before .before
-
-like : (c : tie.Then1 Inv-loop μ-loop) → Gone (a (P c)) (x (P c)) (P c .loop .at + P c .loop .pace .size) (P c .loop .prev) (P c .loop .w)
-like c = let l = c .before .passes .ensures (c .if1 .taken) in like-on (ready (P c) (c .before .before .before .before .loop-test .taken) (P c .loop .inv .1)) (P c .loop .inv .3) (l .0) (l .1)
-
 -- the pointers are eased
 abbrev A : tie.After-ease Inv-loop μ-loop → tie.At-loop Inv-loop μ-loop
-A c = c .before .before .before .before .before .before .before
+A c = c .before .before .before
 
 eased : (c : tie.After-ease Inv-loop μ-loop) → Kept (a (A c)) (A c .loop .at) (due-at (A c .loop .w) (c .ease .result .due))
 eased c = kept-eased (A c .loop .inv .1) (c .ease .ensures .calm)
@@ -71,14 +65,47 @@ told c r e = subst (TurnedIs (a (A (T c))) (x (A (T c)))) e (c .turn .ensures)
 abbrev L : tie.After-known-told2 Inv-loop μ-loop → tie.At-loop Inv-loop μ-loop
 L c = A (T (c .before .before .before))
 
-gone : (c : tie.After-known-told2 Inv-loop μ-loop) → Gone (a (L c)) (x (L c)) (c .before .to .given .0 .0) (c .before .to .given .0 .1 .0) (c .before .to .given .0 .1 .1 .0)
-gone c = let g = c .before .to .given in told (c .before .before .before) (Go (g .0 .0) (g .0 .1 .0) (g .0 .1 .1 .0)) (g .1)
+-- where the turn goes on: the next start, the class and the pointers
+abbrev to : tie.After-known-told2 Inv-loop μ-loop → ℕ
+to c = c .before .to .given .0 .0
+
+abbrev class : tie.After-known-told2 Inv-loop μ-loop → ℕ
+class c = c .before .to .given .0 .1 .0
+
+abbrev pointers : tie.After-known-told2 Inv-loop μ-loop → Pointers
+pointers c = c .before .to .given .0 .1 .1 .0
+
+gone : (c : tie.After-known-told2 Inv-loop μ-loop) → Gone (a (L c)) (x (L c)) (to c) (class c) (pointers c)
+gone c = told (c .before .before .before) (Go (to c) (class c) (pointers c)) (c .before .to .given .1)
+
+abbrev n : tie.After-known-told2 Inv-loop μ-loop → ℕ
+n c = getD (L c .loop .tally) (class c) 0 + 1
+
+below : (c : tie.After-known-told2 Inv-loop μ-loop) → class c < length (L c .loop .tally)
+below c = omega (arith, gone c .eight, L c .loop .inv .0 .nine)
+
+reached : (c : tie.After-known-told2 Inv-loop μ-loop) → n c ≤ getD (ts (L c)) (class c) 0
+reached c = omega (arith, gone c .fewer, walking (L c) .totals .same (class c) (gone c .eight))
+
+-- after the run
+abbrev K : tie.After-run-of Inv-loop μ-loop → tie.After-known-told2 Inv-loop μ-loop
+K c = c .before .before .before
+
+ran : (c : tie.After-run-of Inv-loop μ-loop) → After (a (L (K c))) (L (K c) .loop .count + 1) (class (K c)) (oneMore (L (K c) .loop .tally) (class (K c))) (pointers (K c)) (c .run-of .result .count) (c .run-of .result .end)
+ran c =
+    let k = K c in
+    let y = walking (L k) in
+    run-on (y .d-is) (y .small) (y .totals) (gone k .turn) (gone k .kept) (omega (arith, reached k, getD-set-same (L k .loop .tally) (class k) (n k) 0 (below k))) (c .run-of .ensures (L k .loop .inv .2))
+
+counted : (c : tie.After-run-of Inv-loop μ-loop) → (to (K c) + c .run-of .result .count ≤ c .run-of .result .end) × (c .run-of .result .end ≤ d (L (K c))) × (n (K c) + c .run-of .result .count ≤ getD (ts (L (K c))) (class (K c)) 0)
+counted c =
+    let k = K c in
+    let r = c .run-of .ensures (L k .loop .inv .2) in
+    let l = run-le r in
+    (omega (arith, l .0), run-within r (omega (arith, gone k .turn .inside, walking (L k))), omega (arith, l .1, reached k))
 
 no-pointers-requires : tie.Need-no-pointers-requires Inv-loop μ-loop
 no-pointers-requires c κs = search needs
-
-no-pace-requires : tie.Need-no-pace-requires Inv-loop μ-loop
-no-pace-requires c κs = search needs
 
 no-hold-requires : tie.Need-no-hold-requires Inv-loop μ-loop
 no-hold-requires c κs = search needs
@@ -86,62 +113,19 @@ no-hold-requires c κs = search needs
 loop-holds : tie.Need-loop-holds Inv-loop μ-loop
 unfolding firstAfter mayFollow
 loop-holds c =
-    let s = c .before .before .before .before .before in
+    let s = c .before .before .before .before in
     let y = s .pre in (
       turn-first (y .begun .clean) (y .begun .come) (λ h. let n = y .not-part (omega (arith, y .d-is)) in omega (arith, y .d-is)),
-      subst (Kept (now (s .args .s)) 3307) (sym (c .before .before .no-pointers .ensures)) (kept-first (y .begun .come)),
+      subst (Kept (now (s .args .s)) 3307) (sym (c .before .no-pointers .ensures)) (kept-first (y .begun .come)),
       ruled _ tt,
-      subst (Paced (now (s .args .s)) 1 (c .before .before .no-pointers .result .due) (s .args .d)) (sym (c .before .no-pace .ensures)) (no-pace (omega (arith, y .least))),
       subst (HoldIs (now (s .args .s)) 3307 (now (s .args .held))) (sym (c .no-hold .ensures)) none-held,
       refl,
     )
 
-slice-aggregate-passes : tie.Need-slice-aggregate-passes Inv-loop μ-loop
-slice-aggregate-passes c = search needs
-
-passes-requires : tie.Need-passes-requires Inv-loop μ-loop
-passes-requires c κs =
-    let l = c .before .before .before in (
-      record { small = omega (arith, l .loop .inv .3 .small, walking l); inside = omega (arith, l .loop .inv .0 .inside, walking l); known = l .loop .inv .0 .known },
-      l .loop .inv .2,
-      walking l .totals .nine,
-      l .loop .inv .0 .nine,
-    )
-
-cast-tally : tie.Need-cast-tally Inv-loop μ-loop
-cast-tally c = record { fits = omega (arith, like c .eight) }
-
-mul-tally : tie.Need-mul-tally Inv-loop μ-loop
-mul-tally c = omega (arith, like c .eight)
-
-array-read-tally : tie.Need-array-read-tally Inv-loop μ-loop
-array-read-tally c = omega (arith, like c .eight, P c .loop .inv .0 .nine)
-
-add-tally : tie.Need-add-tally Inv-loop μ-loop
-add-tally c = record { fits = omega (arith, like c .fewer, walking (P c) .totals .small (P c .loop .prev) (like c .eight)) }
-
-array-write-tally : tie.Need-array-write-tally Inv-loop μ-loop
-array-write-tally c = omega (arith, like c .eight, P c .loop .inv .0 .nine)
-
-add-count : tie.Need-add-count Inv-loop μ-loop
-add-count c = record { fits = omega (arith, P c .loop .inv .0 .counted, P c .loop .inv .0 .inside, walking (P c)) }
-
-add-at : tie.Need-add-at Inv-loop μ-loop
-add-at c = let f = c .before in record { fits = omega (arith, P f .loop .inv .3 .small, P f .loop .inv .0 .inside, walking (P f)) }
-
-loop-less : tie.Need-loop-less Inv-loop μ-loop
-loop-less c = let f = c .before in omega (arith, like f .further, f .before .before .before .before .loop-test .taken)
-
-loop-again : tie.Need-loop-again Inv-loop μ-loop
-loop-again c =
-    let f = c .before in
-    let i = P f .loop .inv in
-    (like f .turn, like f .kept, i .2, i .3, later (omega (arith, like f .further)) (i .4), i .5)
-
 ease-requires : tie.Need-ease-requires Inv-loop μ-loop
 ease-requires c κs =
-    let l = c .before .before .before .before .before .before in
-    (l .loop .inv .1, l .loop .inv .4, walking l .d-is, c .before .before .before .before .before .loop-test .taken, walking l .small)
+    let l = c .before .before in
+    (l .loop .inv .1, l .loop .inv .3, walking l .d-is, c .before .loop-test .taken, walking l .small)
 
 slice-aggregate-turn : tie.Need-slice-aggregate-turn Inv-loop μ-loop
 slice-aggregate-turn c = search needs
@@ -149,7 +133,8 @@ slice-aggregate-turn c = search needs
 turn-requires : tie.Need-turn-requires Inv-loop μ-loop
 turn-requires c κs =
     let e = c .before .before .before in
-    (ready (A e) (e .before .before .before .before .before .before .loop-test .taken) (eased e), A e .loop .inv .2)
+    let y = walking (A e) in
+    (record { d-is = y .d-is; small = y .small; room = e .before .before .loop-test .taken; totals = y .totals; turn = A e .loop .inv .0; kept = eased e }, A e .loop .inv .2)
 
 enum-known-answer : tie.Need-enum-known-answer Inv-loop μ-loop
 enum-known-answer c = search needs
@@ -163,38 +148,59 @@ returns c = told (c .before .before .before) (Stop (c .before .answer .given .0 
 enum-known-to : tie.Need-enum-known-to Inv-loop μ-loop
 enum-known-to c = search needs
 
-sub-pace-of : tie.Need-sub-pace-of Inv-loop μ-loop
-sub-pace-of c = omega (arith, gone c .further)
+cast-k : tie.Need-cast-k Inv-loop μ-loop
+cast-k c = record { fits = omega (arith, gone c .eight) }
 
-pace-of-requires : tie.Need-pace-of-requires Inv-loop μ-loop
-pace-of-requires c κs = (omega (arith, walking (L c)), omega (arith, gone c .further), omega (arith, gone c .turn .inside, walking (L c)))
+mul-n : tie.Need-mul-n Inv-loop μ-loop
+mul-n c = omega (arith, gone c .eight)
 
-cast-tally-2 : tie.Need-cast-tally-2 Inv-loop μ-loop
-cast-tally-2 c = record { fits = omega (arith, gone (c .before) .eight) }
+array-read-n : tie.Need-array-read-n Inv-loop μ-loop
+array-read-n c = omega (arith, gone c .eight)
 
-mul-tally-2 : tie.Need-mul-tally-2 Inv-loop μ-loop
-mul-tally-2 c = omega (arith, gone (c .before) .eight)
+add-n : tie.Need-add-n Inv-loop μ-loop
+add-n c = record { fits = omega (arith, gone c .fewer, walking (L c) .totals .small (class c) (gone c .eight)) }
 
-array-read-tally-2 : tie.Need-array-read-tally-2 Inv-loop μ-loop
-array-read-tally-2 c = omega (arith, gone (c .before) .eight, L (c .before) .loop .inv .0 .nine)
+sub-run-of : tie.Need-sub-run-of Inv-loop μ-loop
+sub-run-of c = omega (arith, gone (c .before) .further)
 
-add-tally-2 : tie.Need-add-tally-2 Inv-loop μ-loop
-add-tally-2 c = record { fits = omega (arith, gone (c .before) .fewer, walking (L (c .before)) .totals .small (c .before .before .to .given .0 .1 .0) (gone (c .before) .eight)) }
+mul-run-of : tie.Need-mul-run-of Inv-loop μ-loop
+mul-run-of c = omega (arith, gone (c .before) .eight)
 
-array-write-tally-2 : tie.Need-array-write-tally-2 Inv-loop μ-loop
-array-write-tally-2 c = omega (arith, gone (c .before) .eight, L (c .before) .loop .inv .0 .nine)
+shared-slice-read-run-of : tie.Need-shared-slice-read-run-of Inv-loop μ-loop
+shared-slice-read-run-of c = let k = c .before .before in omega (arith, gone k .eight, walking (L k) .totals .nine)
+
+sub-run-of-2 : tie.Need-sub-run-of-2 Inv-loop μ-loop
+sub-run-of-2 c = reached (c .before .before)
+
+run-of-requires : tie.Need-run-of-requires Inv-loop μ-loop
+run-of-requires c κs = search needs
+
+add-tally : tie.Need-add-tally Inv-loop μ-loop
+add-tally c = let k = K (c .before) in record { fits = omega (arith, counted (c .before) .2, walking (L k) .totals .same (class k) (gone k .eight), walking (L k) .totals .small (class k) (gone k .eight)) }
+
+mul-tally : tie.Need-mul-tally Inv-loop μ-loop
+mul-tally c = omega (arith, gone (K (c .before)) .eight)
+
+array-write-tally : tie.Need-array-write-tally Inv-loop μ-loop
+array-write-tally c = omega (arith, gone (K (c .before)) .eight)
+
+add-count : tie.Need-add-count Inv-loop μ-loop
+add-count c = let r = c .before .before in record { fits = omega (arith, counted r, walking (L (K r)) .small) }
 
 add-count-2 : tie.Need-add-count-2 Inv-loop μ-loop
-add-count-2 c = record { fits = omega (arith, L (c .before) .loop .inv .0 .counted, L (c .before) .loop .inv .0 .inside, walking (L (c .before))) }
+add-count-2 c = let r = c .before .before in let i = L (K r) .loop .inv .0 in record { fits = omega (arith, counted r, gone (K r) .further, i .counted, walking (L (K r)) .small) }
 
-loop-less-2 : tie.Need-loop-less-2 Inv-loop μ-loop
-loop-less-2 c = let k = c .before in omega (arith, gone k .further, L k .loop .inv .0 .inside, T (k .before .before .before) .before .before .before .before .before .before .loop-test .taken)
+loop-less : tie.Need-loop-less Inv-loop μ-loop
+loop-less c = let k = K (c .before .before) in omega (arith, counted (c .before .before) .0, gone k .further, T (k .before .before .before) .before .before .loop-test .taken)
 
-loop-again-2 : tie.Need-loop-again-2 Inv-loop μ-loop
-loop-again-2 c =
-    let k = c .before in
+loop-again : tie.Need-loop-again Inv-loop μ-loop
+loop-again c =
+    let f = c .before .before in
+    let k = K f in
     let e = T (k .before .before .before) in
-    (gone k .turn, gone k .kept, L k .loop .inv .2, c .pace-of .ensures, rw (gone k .to-is) (e .ease .ensures .hold), e .ease .ensures .same ∙ L k .loop .inv .5)
+    let r = f .run-of .result in
+    let i : L k .loop .count + (1 + r .count) ≡ L k .loop .count + 1 + r .count = omega arith in
+    (rw (i, ← run-tally (L k .loop .tally) (class k) (r .count) (below k)) (ran f .0), ran f .1, L k .loop .inv .2, later {i = to k} (omega (arith, counted f .0)) (rw (gone k .to-is) (e .ease .ensures .hold)), e .ease .ensures .same ∙ L k .loop .inv .4)
 
 slice-aggregate-ended : tie.Need-slice-aggregate-ended Inv-loop μ-loop
 slice-aggregate-ended c = search needs
@@ -217,20 +223,8 @@ walk-on-spec =
     Inv-loop
     μ-loop
     no-pointers-requires
-    no-pace-requires
     no-hold-requires
     loop-holds
-    slice-aggregate-passes
-    passes-requires
-    cast-tally
-    mul-tally
-    array-read-tally
-    add-tally
-    array-write-tally
-    add-count
-    add-at
-    loop-less
-    loop-again
     ease-requires
     slice-aggregate-turn
     turn-requires
@@ -238,16 +232,22 @@ walk-on-spec =
     same-length
     returns
     enum-known-to
-    sub-pace-of
-    pace-of-requires
-    cast-tally-2
-    mul-tally-2
-    array-read-tally-2
-    add-tally-2
-    array-write-tally-2
+    cast-k
+    mul-n
+    array-read-n
+    add-n
+    sub-run-of
+    mul-run-of
+    shared-slice-read-run-of
+    sub-run-of-2
+    run-of-requires
+    add-tally
+    mul-tally
+    array-write-tally
+    add-count
     add-count-2
-    loop-less-2
-    loop-again-2
+    loop-less
+    loop-again
     slice-aggregate-ended
     ended-requires
     same-length-2

@@ -1,0 +1,88 @@
+-- `judge::run::is_like` meets its contract: each test that it passed. Assumes nothing.
+use denote.Ref.{now}
+use borrow.Author.Tests.{not-false}
+use mathlib.Core.Path.{sym, ap, _∙_}
+use Rattle.record.specs.Header.{isClass}
+use Rattle.judge.proofs.RankLaws.{clash}
+use borrow.Author.Needs.{needs}
+use Rattle.judge.proofs.run.is_like.Statement.{statement}
+use Rattle.judge.proofs.run.is_like.Tie as tie
+
+add-word : tie.Need-add-word
+add-word c = search needs
+
+word-requires : tie.Need-word-requires
+word-requires c κs = search needs
+
+returns : tie.Need-returns
+returns c = λ e. clash e
+
+shared-slice-read-if2 : tie.Need-shared-slice-read-if2
+shared-slice-read-if2 c = search needs
+
+returns-2 : tie.Need-returns-2
+returns-2 c = λ e. clash e
+
+shared-slice-read-may-follow : tie.Need-shared-slice-read-may-follow
+shared-slice-read-may-follow c = search needs
+
+may-follow-requires : tie.Need-may-follow-requires
+may-follow-requires c κs =
+    let f = c .before in
+    let s = f .before .before .before .before .before in
+    (s .pre .0 .known, ap isClass (f .if2 .left) ∙ s .pre .0 .known)
+
+returns-3 : tie.Need-returns-3
+returns-3 c = λ e. clash e
+
+add-is-group : tie.Need-add-is-group
+add-is-group c = search needs
+
+shared-slice-read-is-group : tie.Need-shared-slice-read-is-group
+shared-slice-read-is-group c = search needs
+
+is-group-requires : tie.Need-is-group-requires
+is-group-requires c κs = search needs
+
+returns-4 : tie.Need-returns-4
+returns-4 c = λ e. clash e
+
+surely-stand-requires : tie.Need-surely-stand-requires
+surely-stand-requires c κs = search needs
+
+returns-5 : tie.Need-returns-5
+returns-5 c = λ e ruled.
+    let g = c .before in
+    let m = g .before .before .before in
+    let f = m .before .before .before in
+    let z = f .before .before in
+    let w = z .before in
+    let s = w .before .before in
+    record {
+      liking = s .pre .0;
+      come = s .pre .1;
+      size-is = sym (z .if1 .left) ∙ w .word .ensures .0;
+      class-is = f .if2 .left;
+      follows = sym (m .before .may-follow .ensures ruled) ∙ not-false (m .before .may-follow .result) (m .if3 .left);
+      group = sym (g .before .is-group .ensures) ∙ not-false (g .before .is-group .result) (g .if4 .left);
+      timed = sym (c .surely-stand .ensures e);
+    }
+
+pub is-like-spec : {M : Type 1} → statement M
+is-like-spec =
+    tie.close
+    (tie.spec
+    add-word
+    word-requires
+    returns
+    shared-slice-read-if2
+    returns-2
+    shared-slice-read-may-follow
+    may-follow-requires
+    returns-3
+    add-is-group
+    shared-slice-read-is-group
+    is-group-requires
+    returns-4
+    surely-stand-requires
+    returns-5)

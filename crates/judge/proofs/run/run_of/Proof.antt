@@ -1,0 +1,111 @@
+-- `judge::run::run_of` meets its contract: the invariant is the run so far, before the limit. Assumes nothing.
+use Prim.Native.Nat.{ℕ, _+_, _-_, _≤_, _<_}
+use native.Mathlib.Omega.{arith}
+use borrow.Author.Needs.{needs}
+use borrow.Author.Tests.{not-false}
+use lib.ListN.{length}
+use Rattle.record.specs.Follow.{Ruled}
+use Rattle.judge.specs.Run.{Liking, Alike, none, more}
+use Rattle.judge.proofs.run.run_of.Statement.{statement}
+use Rattle.judge.proofs.run.run_of.Tie as tie
+
+-- up to the limit all has come, no pointer is due, and 20 bytes of d are left
+pub record Before (len due d limit : ℕ) : Type 0 where
+  pub come : limit ≤ len
+  pub due-after : limit ≤ due
+  pub left : limit + 20 ≤ d
+
+abbrev Inv-loop : tie.InvT-loop
+Inv-loop s follow class size at due d most count₀ end₀ limit count end =
+    (end ≤ limit) × Before (length s) due d limit × Liking class size × (Ruled follow → Alike s class size due d most at count end)
+
+abbrev μ-loop : tie.MeasureT-loop
+μ-loop s follow class size at due d most count₀ end₀ limit count end = most - count
+
+liked : (c : tie.Else1 Inv-loop μ-loop) → Liking (c .before .before .before .args .class) (c .before .before .before .args .size) × (20 ≤ c .before .before .before .args .d)
+liked c = c .before .is-run .ensures (not-false (c .before .is-run .result) (c .if1 .left))
+
+is-run-requires : tie.Need-is-run-requires Inv-loop μ-loop
+is-run-requires c κs = search needs
+
+returns : tie.Need-returns Inv-loop μ-loop
+returns c = λ _. none
+
+lesser-requires : tie.Need-lesser-requires Inv-loop μ-loop
+lesser-requires c κs = search needs
+
+sub-lesser : tie.Need-sub-lesser Inv-loop μ-loop
+sub-lesser c = omega (arith, liked (c .before) .1)
+
+lesser-requires-2 : tie.Need-lesser-requires-2 Inv-loop μ-loop
+lesser-requires-2 c κs = search needs
+
+returns-2 : tie.Need-returns-2 Inv-loop μ-loop
+returns-2 c = λ _. none
+
+loop-holds : tie.Need-loop-holds Inv-loop μ-loop
+loop-holds c =
+    let m = c .before .lesser2 .ensures in
+    let l = c .before .before .lesser .ensures in
+    let k = liked (c .before .before .before) in
+    (c .if2 .left, record { come = omega (arith, m .0, l .1); due-after = omega (arith, m .0, l .0); left = omega (arith, m .1, k .1) }, k .0, λ _. none)
+
+sub-if3 : tie.Need-sub-if3 Inv-loop μ-loop
+sub-if3 c = search needs
+
+returns-3 : tie.Need-returns-3 Inv-loop μ-loop
+returns-3 c = search needs
+
+is-like-requires : tie.Need-is-like-requires Inv-loop μ-loop
+is-like-requires c κs =
+    let i = c .before .before .loop .inv in
+    (i .2, omega (arith, c .if3 .left, i .0, i .1 .come, i .2 .least))
+
+returns-4 : tie.Need-returns-4 Inv-loop μ-loop
+returns-4 c = search needs
+
+add-count : tie.Need-add-count Inv-loop μ-loop
+add-count c = let n = c .before .before .before in record { fits = omega (arith, n .loop-test .taken, n .before .before .before .before .before .before .before .before .fits .most) }
+
+add-end : tie.Need-add-end Inv-loop μ-loop
+add-end c = let e = c .before .before in let i = e .before .before .loop .inv in record { fits = omega (arith, e .if3 .left, i .0, i .1 .left, e .before .before .before .before .before .before .before .before .before .fits .d) }
+
+loop-less : tie.Need-loop-less Inv-loop μ-loop
+loop-less c = omega (arith, c .before .before .before .loop-test .taken)
+
+loop-again : tie.Need-loop-again Inv-loop μ-loop
+loop-again c =
+    let e = c .before .before in
+    let n = e .before in
+    let i = n .before .loop .inv in (
+      omega (arith, e .if3 .left, i .0),
+      i .1,
+      i .2,
+      λ r. more (i .3 r) (n .loop-test .taken) (omega (arith, e .if3 .left, i .0, i .1 .due-after)) (omega (arith, e .if3 .left, i .0, i .1 .left)) (omega (arith, e .if3 .left, i .0, i .1 .come)) (c .before .is-like .ensures (not-false (c .before .is-like .result) (c .if4 .left)) r),
+    )
+
+returns-5 : tie.Need-returns-5 Inv-loop μ-loop
+returns-5 c = search needs
+
+pub run-of-spec : {M : Type 1} → statement M
+run-of-spec =
+    tie.close
+    (tie.spec
+    Inv-loop
+    μ-loop
+    is-run-requires
+    returns
+    lesser-requires
+    sub-lesser
+    lesser-requires-2
+    returns-2
+    loop-holds
+    sub-if3
+    returns-3
+    is-like-requires
+    returns-4
+    add-count
+    add-end
+    loop-less
+    loop-again
+    returns-5)

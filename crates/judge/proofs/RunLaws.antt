@@ -59,8 +59,8 @@ module _ {a ts : List ℕ} {d n i p z : ℕ} {tl : List ℕ} (t : Turn a (site n
   no-ipr : classAt a i ≡ 3 → ⊥
   no-ipr e = l .liking .other (sym (l .class-is) ∙ e)
 
-  sound : Sound a i
-  sound = record { room = omega (arith, l .liking .least); least = omega (arith, l .size-is, l .liking .least); most = omega (arith, l .size-is); ipr = λ e. absurd (no-ipr e) }
+  pub like-sound : Sound a i
+  like-sound = record { room = omega (arith, l .liking .least); least = omega (arith, l .size-is, l .liking .least); most = omega (arith, l .size-is); ipr = λ e. absurd (no-ipr e) }
 
   no-six : Six a i → ⊥
   no-six x = omega (arith, l .size-is, x .short, x .part)
@@ -75,12 +75,12 @@ module _ {a ts : List ℕ} {d n i p z : ℕ} {tl : List ℕ} (t : Turn a (site n
   few x = omega (arith, f, s .same p eight, ap (total a) (l .class-is), ap (λ (c : ℕ). getD tl c 0) (l .class-is), x .over)
 
   ranked : Ranked a p i tl 12
-  ranked = rank-12 no-six (known a i known-class (l .group)) placed (λ v. v sound) timely few
+  ranked = rank-12 no-six (known a i known-class (l .group)) placed (λ v. v like-sound) timely few
 
   -- where no pointer tells against it
   pub like-turn : Quiet a i (i + 1) (i + z) any → Quiet a i i (i + 1) (kindAt a i) → Turn a (site (n + 1) (i + z) p (oneMore tl p))
   like-turn q o =
-      rw (l .size-is, ← l .class-is) (turn-next t (sound .room) (plain t (sound .room) ranked (omega arith) (rw (l .size-is) at q) o) (λ h. omega (arith, l .size-is)) (omega (arith, l .size-is)) (λ e. absurd (no-ipr e)))
+      rw (l .size-is, ← l .class-is) (turn-next t (like-sound .room) (plain t (like-sound .room) ranked (omega arith) (rw (l .size-is) at q) o) (λ h. omega (arith, l .size-is)) (omega (arith, l .size-is)) (λ e. absurd (no-ipr e)))
 
 -- ---- by the judge's pointers
 module _ {a ts : List ℕ} {d n i p z : ℕ} {tl : List ℕ} {w : Pointers} (y : Ready a d (site n i p tl) ts w) (l : LikeIs a p z i) (f : getD tl p 0 < getD ts p 0) (g : i + z ≤ length a) (u : i + z + 20 ≤ d) (due : i + z ≤ w .due) where

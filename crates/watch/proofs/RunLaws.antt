@@ -10,7 +10,7 @@ use Rattle.judge.specs.Table.{site, kindAt, oneMore}
 use Rattle.judge.specs.Step.{Facing}
 use Rattle.judge.specs.Run.{LikeIs, Alike, none, more, someMore}
 use Rattle.judge.proofs.RankLaws.{class-alike, group-alike, size-alike, timed-alike, class-most}
-use Rattle.judge.proofs.RunLaws.{fold, none-more, one-further, sound, like-turn}
+use Rattle.judge.proofs.RunLaws.{fold, none-more, one-further, like-sound, like-turn}
 use Rattle.watch.specs.Stands.{On}
 use Rattle.watch.specs.Turning.{Part}
 use Rattle.watch.proofs.Leaves.{clear-soon}
@@ -23,7 +23,7 @@ module _ {b p : List ℕ} {base : ℕ} (f : Part b p base) where
 
   like-fed : {c z i : ℕ} → LikeIs p c z i → LikeIs b c z (base + i)
   like-fed {i = i} l =
-      let y = facing {i} {20} (l .come) in
+      let y : Facing p i b (base + i) 20 = facing (l .come) in
       record {
         liking = l .liking;
         come = omega (arith, l .come, f .len);
@@ -52,7 +52,7 @@ on-run {b} {n} {i} {c} {d} {due} {z} {most} {t} {ts} {ss} {gs} {ks} o few = fold
     inside = omega (arith, o .turn .nine, class-most c (o .turn .known) .1)
 
     three : (c ≡ 3 → ⊥) → (m : ℕ) → getD (someMore t c m) 3 0 ≡ getD t 3 0
-    three no m = getD-set-other t c 3 (getD t c 0 + m) 0 (λ e. no (sym e))
+    three o m = getD-set-other t c 3 (getD t c 0 + m) 0 (λ e. o (sym e))
 
     same : n + 0 ≡ n
     same = omega arith
@@ -63,7 +63,7 @@ on-run {b} {n} {i} {c} {d} {due} {z} {most} {t} {ts} {ss} {gs} {ks} o few = fold
         let e = three (k .liking .other) m ∙ sym (three (k .liking .other) (m + 1)) in
         let y = clear-soon {ss = ss} {gs = gs} {ks = ks} {n = getD (someMore t c m) 3 0} {due = due} {i = j} {to = j + z} {k = kindAt b j} (omega (arith, k .liking .least)) h in
         let i : n + (m + 1) ≡ n + m + 1 = omega arith in
-        let s = sound (x .turn) (x .d-is) (x .totals) k less g u in
+        let s = like-sound (x .turn) (x .d-is) (x .totals) k less g u in
         record {
           turn = rw (i, ← one-further t c m inside) (like-turn (x .turn) (x .d-is) (x .totals) k less g u (quiet (x .listed) (y .inside (x .soonest))) (quiet (x .listed) (y .other (x .soonest))));
           d-is = x .d-is;

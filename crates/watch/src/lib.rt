@@ -230,6 +230,14 @@ fn run_in(
     }
 }
 
+// So many more records of a class, within its total.
+fn with_more(n: usize, more: usize, total: usize) -> usize
+    requires { ⌜ n + more ≤ total ⌝ }
+    ensures { λ r. ⌜ r ≡ n + more ⌝ }
+{
+    n + more
+}
+
 // The records of a part, the first byte of which is byte `base` of what was fed.
 fn walk(w: Watch, part: &[u8], base: usize) -> Fed
     requires { ⌜ SaneWatch w × (base ≤ 2147483647) ⌝ }
@@ -282,11 +290,13 @@ fn walk(w: Watch, part: &[u8], base: usize) -> Fed
             }
             Turned::Pass { to, class, due } => {
                 let k = class as usize;
-                let n = v.tally[k] + 1;
-                let most = v.totals[k] - n;
+                let n = v.tally[k];
+                let total = v.totals[k];
+                let most = total - n - 1;
                 let run = run_in(part, &follow, base, class, to - at, to, due, d, most);
-                v.tally[k] = n + run.count;
-                v.count += 1 + run.count;
+                let passed = 1 + run.count;
+                v.tally[k] = with_more(n, passed, total);
+                v.count += passed;
                 v.at = run.end;
                 v.prev = class;
                 v.due = due;

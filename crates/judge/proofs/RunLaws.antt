@@ -2,6 +2,7 @@
 -- table in turn, as the turn does; and a run of them by induction. Assumes nothing.
 use Prim.Native.Nat.{ℕ, _+_, _*_, _≤_, _<_}
 use native.Mathlib.Nat.{le-refl}
+use native.Mathlib.Decide.{decLe}
 use native.Mathlib.Omega.{arith}
 use mathlib.Core.Path.{_≡_, refl, sym, _∙_, ap}
 use mathlib.Core.Bool.{Bool, true, false}
@@ -114,3 +115,7 @@ run-on {a} {ts} {d} {n} {i} {p} {z} {most} {tl} {w} d-is small s t k f = fold {P
         let o = like-on y q (omega (arith, f, getD-set-same tl p (getD tl p 0 + m) 0 inside)) g u h in
         let e : n + (m + 1) ≡ n + m + 1 = omega arith in
         (rw (e, ← one-further tl p m inside) (o .turn), o .kept)
+
+-- DETERMINED: the lesser of two numbers is one of them
+pub unique-lesser : (a b r s : ℕ) → (a ≤ b → r ≡ a) × (b ≤ a → r ≡ b) → (a ≤ b → s ≡ a) × (b ≤ a → s ≡ b) → r ≡ s
+unique-lesser a b r s x y = elim (decLe a b) [ yes l ↦ x .0 l ∙ sym (y .0 l) | no l ↦ x .1 (omega (arith, l)) ∙ sym (y .1 (omega (arith, l))) ]

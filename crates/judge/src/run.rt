@@ -17,8 +17,9 @@ pub struct Run {
     pub end: usize,
 }
 
+// The lesser of two numbers.
 pub fn lesser(a: usize, b: usize) -> usize
-    ensures { λ r. ⌜ (r ≤ a) × (r ≤ b) ⌝ }
+    ensures { λ r. ⌜ (r ≤ a) × (r ≤ b) × (a ≤ b → r ≡ a) × (b ≤ a → r ≡ b) ⌝ }
 {
     if a < b { a } else { b }
 }

@@ -7,6 +7,7 @@ pub mod TurnLaws
 pub mod CountLaws
 pub mod Covering
 pub mod RunLaws
+pub mod StretchLaws
 pub mod TimesLaws
 pub mod PendingLaws
 pub mod SweepLaws

@@ -11,6 +11,10 @@ use crate::pointers::close_record;
 use crate::pointers::no_pointers;
 use crate::pointers::settle;
 use crate::run::run_of;
+use crate::stretch::Stretch;
+use crate::stretch::grown;
+use crate::stretch::longer;
+use crate::stretch::no_stretch;
 use calendar::Refusal;
 use mphr::faults::HeaderFault;
 use text::Number;
@@ -24,6 +28,7 @@ ghost use Rattle.record.specs.Follow.{Ruled};
 ghost use Rattle.mphr.specs.Table.{declared, total, Fine};
 ghost use Rattle.judge.specs.Table.{site, Judged};
 ghost use Rattle.judge.specs.Extent.{ExtentIs};
+ghost use Rattle.judge.specs.Stretch.{noStretch, StretchIs};
 ghost use Rattle.judge.specs.Turning.{Totals, Ready, TurnedIs, refusedAt, Begun, Walking, CountAt, Over, FewerIs};
 
 pub enum Arrival {
@@ -36,6 +41,17 @@ pub enum Extent {
     Part,
     Entire { count: usize },
     Refused(Refusal),
+}
+
+// What is to be said of an arrival, and a stretch of records of one size in it.
+pub struct Walked {
+    pub answer: Arrival,
+    pub stretch: Stretch,
+}
+
+pub struct Surveyed {
+    pub extent: Extent,
+    pub stretch: Stretch,
 }
 
 // What a record comes to.
@@ -162,9 +178,9 @@ fn ended(s: &[u8], totals: &[usize], tally: &[usize], d: usize, count: usize, pr
 }
 
 // The walk over the records after the main header, with a room for the pointers that are still to come.
-fn walk_on(s: &[u8], totals: &[usize], held: &mut [[u32; 3]], d: usize) -> Arrival
+fn walk_on(s: &[u8], totals: &[usize], held: &mut [[u32; 3]], d: usize) -> Walked
     requires { ⌜ Walking (now s) (now totals) d ⌝ }
-    ensures { λ r. ⌜ Judged (now (s .entry)) r ⌝ }
+    ensures { λ r. ⌜ Judged (now (s .entry)) (r .answer) × StretchIs (now (s .entry)) (r .stretch) ⌝ }
 {
     let mut tally = [0usize, 1, 0, 0, 0, 0, 0, 0, 0];
     let mut count: usize = 1;
@@ -172,6 +188,8 @@ fn walk_on(s: &[u8], totals: &[usize], held: &mut [[u32; 3]], d: usize) -> Arriv
     let mut prev: u8 = 1;
     let mut w = no_pointers(d);
     let mut hold = no_hold(d);
+    let mut last = no_stretch(at);
+    let mut stretch = last;
     // Once: a const array is copied where it is named.
     let follow = record::follow::FOLLOW;
     while at < d {
@@ -179,7 +197,7 @@ fn walk_on(s: &[u8], totals: &[usize], held: &mut [[u32; 3]], d: usize) -> Arriv
         w.due = hold.due;
         match turn(s, &follow, totals, &tally, d, count, at, prev, w) {
             Turned::Stop(answer) => {
-                return answer;
+                return Walked { answer, stretch };
             }
             Turned::Go {
                 to,
@@ -200,23 +218,28 @@ fn walk_on(s: &[u8], totals: &[usize], held: &mut [[u32; 3]], d: usize) -> Arriv
                 );
                 tally[k] = n + run.count;
                 count += 1 + run.count;
+                last = grown(last, at, to - at, run.end, 1 + run.count);
+                stretch = longer(stretch, last);
                 at = run.end;
                 prev = class;
                 w = pointers;
             }
         }
     }
-    ended(s, totals, &tally, d, count, prev)
+    Walked {
+        answer: ended(s, totals, &tally, d, count, prev),
+        stretch,
+    }
 }
 
 // The room: a single pointer is in order, and needs none.
-fn walk(s: &[u8]) -> Arrival
+fn walk(s: &[u8]) -> Walked
     requires { ⌜ Begun (now s) ⌝ }
-    ensures { λ r. ⌜ Judged (now (s .entry)) r ⌝ }
+    ensures { λ r. ⌜ Judged (now (s .entry)) (r .answer) × StretchIs (now (s .entry)) (r .stretch) ⌝ }
 {
     let d = size_of(s);
     if is_part(3307, d) {
-        return refusal(6, 3307);
+        return at_once(refusal(6, 3307));
     }
     let mut totals = [0usize; 9];
     put_totals(s, &mut totals);
@@ -228,26 +251,43 @@ fn walk(s: &[u8]) -> Arrival
     walk_on(s, &totals, &mut held, d)
 }
 
-// What is to be said of an arrival: a refusal of 1 to 16, or waiting, with the whole records and the end of the last.
-pub fn judge_arrival(s: &[u8]) -> Arrival
-    ensures { λ r. ⌜ Judged (now (s .entry)) r ⌝ }
+// An answer that no walk gave.
+fn at_once(answer: Arrival) -> Walked
+    ensures { λ r. ⌜ (r .answer ≡ answer) × (r .stretch ≡ noStretch 0) ⌝ }
+{
+    Walked {
+        answer,
+        stretch: no_stretch(0),
+    }
+}
+
+fn judged(s: &[u8]) -> Walked
+    ensures { λ r. ⌜ Judged (now (s .entry)) (r .answer) × StretchIs (now (s .entry)) (r .stretch) ⌝ }
 {
     match mphr::faults::header_fault(s) {
-        HeaderFault::Refused(r) => Arrival::Refused(r),
+        HeaderFault::Refused(r) => at_once(Arrival::Refused(r)),
         HeaderFault::Clean => {
             if s.len() < 3307 {
-                return Arrival::Waiting { count: 0, end: 0 };
+                return at_once(Arrival::Waiting { count: 0, end: 0 });
             }
             walk(s)
         }
     }
 }
 
+// What is to be said of an arrival: a refusal of 1 to 16, or waiting, with the whole records and the end of the last.
+pub fn judge_arrival(s: &[u8]) -> Arrival
+    ensures { λ r. ⌜ Judged (now (s .entry)) r ⌝ }
+{
+    judged(s).answer
+}
+
 // The same refusals; else whether each byte has come of the main header and of the size that it declares.
-pub fn judge_extent(s: &[u8]) -> Extent
+fn extent_of(s: &[u8], answer: Arrival) -> Extent
+    requires { ⌜ Judged (now s) answer ⌝ }
     ensures { λ r. ⌜ ExtentIs (now (s .entry)) r ⌝ }
 {
-    match judge_arrival(s) {
+    match answer {
         Arrival::Refused(r) => Extent::Refused(r),
         Arrival::Waiting { count, end: _ } => {
             if count == 0 {
@@ -259,4 +299,23 @@ pub fn judge_extent(s: &[u8]) -> Extent
             Extent::Entire { count }
         }
     }
+}
+
+// The extent of an arrival, and a stretch of records of one size in it, whose sizes need not be read again.
+pub fn survey(s: &[u8]) -> Surveyed
+    ensures { λ r. ⌜ ExtentIs (now (s .entry)) (r .extent) × StretchIs (now (s .entry)) (r .stretch) ⌝ }
+{
+    let walked = judged(s);
+    let answer = walked.answer;
+    let stretch = walked.stretch;
+    Surveyed {
+        extent: extent_of(s, answer),
+        stretch,
+    }
+}
+
+pub fn judge_extent(s: &[u8]) -> Extent
+    ensures { λ r. ⌜ ExtentIs (now (s .entry)) r ⌝ }
+{
+    survey(s).extent
 }

@@ -7,4 +7,5 @@ pub mod parts;
 mod pending;
 mod pointers;
 mod run;
+pub mod stretch;
 mod times;

@@ -9,6 +9,7 @@ use Rattle.judge.specs.Turning.{Walking}
 use Rattle.judge.proofs.RankLaws.{part-is, not-part}
 use Rattle.judge.proofs.JudgeLaws.{refuse-6-first}
 use Rattle.judge.proofs.TurnLaws.{said}
+use Rattle.judge.proofs.StretchLaws.{told-at-once}
 use Rattle.judge.proofs.arrival.walk.Statement.{statement}
 use Rattle.judge.proofs.arrival.walk.Tie as tie
 
@@ -39,11 +40,14 @@ refusal-requires c κs = search needs
 
 returns : tie.Need-returns
 returns c =
-    let e = c .before in
+    let e = c .before .before in
     let z = e .before .before .size-of in
     let s = e .before .before .before .before in
     let p = part-is 3307 (z .result) (sym (e .before .is-part .ensures) ∙ e .if1 .taken) in
-    said (now (s .args .s)) (c .refusal .ensures) (refuse-6-first (s .pre .clean) (s .pre .come) (omega (arith, p, z .ensures .0)) (omega (arith, p, z .ensures .0)))
+    told-at-once (c .at-once .ensures) (said (now (s .args .s)) (c .before .refusal .ensures) (refuse-6-first (s .pre .clean) (s .pre .come) (omega (arith, p, z .ensures .0)) (omega (arith, p, z .ensures .0))))
+
+at-once-requires : tie.Need-at-once-requires
+at-once-requires c κs = search needs
 
 slice-aggregate-put-totals : tie.Need-slice-aggregate-put-totals
 slice-aggregate-put-totals c = search needs
@@ -85,6 +89,7 @@ walk-spec =
     size-of-requires
     is-part-requires
     refusal-requires
+    at-once-requires
     returns
     slice-aggregate-put-totals
     put-totals-requires

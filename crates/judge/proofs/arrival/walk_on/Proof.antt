@@ -5,7 +5,8 @@ use native.Mathlib.Omega.{arith}
 use denote.Ref.{now}
 use borrow.Author.Needs.{needs}
 use mathlib.Core.List.{List}
-use mathlib.Core.Path.{_≡_, refl, sym, subst, _∙_}
+use mathlib.Core.Path.{_≡_, refl, sym, subst, _∙_, ap}
+use mathlib.Core.Logic.{_⊎_, inl, inr}
 use lib.ListN.{length, getD}
 use lib.Seq.{getD-set-same}
 use Rattle.record.specs.Follow.{firstAfter, mayFollow, Ruled}
@@ -14,25 +15,28 @@ use Rattle.judge.specs.Table.{Site, site, oneMore}
 use Rattle.judge.specs.Step.{Kept}
 use Rattle.judge.specs.Turning.{Turn, Ready, Gone, Walking, TurnedIs}
 use Rattle.judge.specs.Pending.{HoldIs}
+use Rattle.judge.specs.Stretch.{over, StretchIs, noStretch}
+use Rattle.judge.specs.declared.stretch.Stretch.{Stretch}
 use Rattle.judge.specs.declared.pointers.Pointers.{Pointers}
 use Rattle.judge.specs.declared.arrival.Turned.{Turned}
 use Rattle.judge.specs.declared.arrival.Turned.the-variants.{Stop, Go}
 use Rattle.judge.proofs.JudgeLaws.{turn-first}
 use Rattle.judge.proofs.TurnLaws.{kept-first, over-at}
 use Rattle.judge.proofs.RunLaws.{run-le, run-within, run-tally, After, run-on}
+use Rattle.judge.proofs.StretchLaws.{run-even, turn-even}
 use Rattle.judge.proofs.EaseLaws.{later, none-held, due-at, kept-eased}
 use Rattle.judge.proofs.arrival.walk_on.Statement.{statement}
 use Rattle.judge.proofs.arrival.walk_on.Tie as tie
 
 abbrev Inv-loop : tie.InvT-loop
-Inv-loop s totals held₀ d tally₀ count₀ at₀ prev₀ w₀ hold₀ follow held tally count at prev w hold =
-    Turn s (site count at prev tally) × Kept s at w × Ruled follow × HoldIs s at held hold × (length held ≡ length held₀)
+Inv-loop s totals held₀ d tally₀ count₀ at₀ prev₀ w₀ hold₀ last₀ stretch₀ follow held tally count at prev w hold last stretch =
+    Turn s (site count at prev tally) × Kept s at w × Ruled follow × HoldIs s at held hold × (length held ≡ length held₀) × StretchIs s last × (last .end ≡ at) × (last .count ≤ at) × StretchIs s stretch
 
 abbrev μ-loop : tie.MeasureT-loop
-μ-loop s totals held₀ d tally₀ count₀ at₀ prev₀ w₀ hold₀ follow held tally count at prev w hold = d - at
+μ-loop s totals held₀ d tally₀ count₀ at₀ prev₀ w₀ hold₀ last₀ stretch₀ follow held tally count at prev w hold last stretch = d - at
 
 abbrev St : tie.At-loop Inv-loop μ-loop → tie.Start Inv-loop μ-loop
-St c = c .before .before .before .before .before
+St c = c .before .before .before .before .before .before
 
 abbrev a : tie.At-loop Inv-loop μ-loop → List ℕ
 a c = now (St c .args .s)
@@ -104,6 +108,35 @@ counted c =
     let l = run-le r in
     (omega (arith, l .0), run-within r (omega (arith, gone k .turn .inside, walking (L k))), omega (arith, l .1, reached k))
 
+-- the stretch goes on
+abbrev R : tie.After-struct-known3 Inv-loop μ-loop → tie.After-run-of Inv-loop μ-loop
+R c = c .before .before .before
+
+abbrev G : tie.After-longer Inv-loop μ-loop → tie.After-struct-known3 Inv-loop μ-loop
+G c = c .before .before
+
+grows : (c : tie.After-longer Inv-loop μ-loop) → StretchIs (a (L (K (R (G c))))) (c .before .grown .result)
+grows c =
+    let f = R (G c) in
+    let k = K f in
+    let l = L k in
+    let g = gone k in
+    c .before .grown .ensures .even (a l) (l .loop .inv .5) (l .loop .inv .6) (turn-even (omega (arith, g .to-is)) (omega (arith, g .further)) (run-even (f .run-of .ensures (l .loop .inv .2))))
+
+-- no record yet
+even-none : {a : List ℕ} {i : ℕ} {r : Stretch} → r ≡ noStretch i → StretchIs a r
+even-none e = rw e over
+
+ends : {i : ℕ} {r : Stretch} → r ≡ noStretch i → r .end ≡ i
+ends e = ap (λ (r : Stretch). r .end) e
+
+counts : {i : ℕ} {r : Stretch} → r ≡ noStretch i → r .count ≡ 0
+counts e = ap (λ (r : Stretch). r .count) e
+
+one-of : {a : List ℕ} {r x y : Stretch} → (r ≡ x) ⊎ (r ≡ y) → StretchIs a x → StretchIs a y → StretchIs a r
+one-of (inl e) m n = rw e m
+one-of (inr e) m n = rw e n
+
 no-pointers-requires : tie.Need-no-pointers-requires Inv-loop μ-loop
 no-pointers-requires c κs = search needs
 
@@ -113,14 +146,21 @@ no-hold-requires c κs = search needs
 loop-holds : tie.Need-loop-holds Inv-loop μ-loop
 unfolding firstAfter mayFollow
 loop-holds c =
-    let s = c .before .before .before .before in
+    let s = c .before .before .before .before .before in
     let y = s .pre in (
       turn-first (y .begun .clean) (y .begun .come) (λ h. let n = y .not-part (omega (arith, y .d-is)) in omega (arith, y .d-is)),
-      subst (Kept (now (s .args .s)) 3307) (sym (c .before .no-pointers .ensures)) (kept-first (y .begun .come)),
+      subst (Kept (now (s .args .s)) 3307) (sym (c .before .before .no-pointers .ensures)) (kept-first (y .begun .come)),
       ruled _ tt,
-      subst (HoldIs (now (s .args .s)) 3307 (now (s .args .held))) (sym (c .no-hold .ensures)) none-held,
+      subst (HoldIs (now (s .args .s)) 3307 (now (s .args .held))) (sym (c .before .no-hold .ensures)) none-held,
       refl,
+      even-none (c .no-stretch .ensures),
+      ends (c .no-stretch .ensures),
+      omega (arith, counts (c .no-stretch .ensures)),
+      even-none (c .no-stretch .ensures),
     )
+
+no-stretch-requires : tie.Need-no-stretch-requires Inv-loop μ-loop
+no-stretch-requires c κs = search needs
 
 ease-requires : tie.Need-ease-requires Inv-loop μ-loop
 ease-requires c κs =
@@ -143,7 +183,7 @@ same-length : tie.Need-same-length Inv-loop μ-loop
 same-length c = search needs
 
 returns : tie.Need-returns Inv-loop μ-loop
-returns c = told (c .before .before .before) (Stop (c .before .answer .given .0 .0)) (c .before .answer .given .1)
+returns c = (told (c .before .before .before) (Stop (c .before .answer .given .0 .0)) (c .before .answer .given .1), A (T (c .before .before .before)) .loop .inv .8)
 
 enum-known-to : tie.Need-enum-known-to Inv-loop μ-loop
 enum-known-to c = search needs
@@ -190,17 +230,40 @@ add-count c = let r = c .before .before in record { fits = omega (arith, counted
 add-count-2 : tie.Need-add-count-2 Inv-loop μ-loop
 add-count-2 c = let r = c .before .before in let i = L (K r) .loop .inv .0 in record { fits = omega (arith, counted r, gone (K r) .further, i .counted, walking (L (K r)) .small) }
 
+sub-grown : tie.Need-sub-grown Inv-loop μ-loop
+sub-grown c = omega (arith, gone (K (c .before .before)) .further)
+
+add-grown : tie.Need-add-grown Inv-loop μ-loop
+add-grown c = record { fits = omega (arith, counted (R c), walking (L (K (R c))) .small) }
+
+grown-requires : tie.Need-grown-requires Inv-loop μ-loop
+grown-requires c κs = let r = R c in let i = L (K r) .loop .inv in omega (arith, i .7, counted r, i .0 .inside, walking (L (K r)))
+
+longer-requires : tie.Need-longer-requires Inv-loop μ-loop
+longer-requires c κs = search needs
+
 loop-less : tie.Need-loop-less Inv-loop μ-loop
-loop-less c = let k = K (c .before .before) in omega (arith, counted (c .before .before) .0, gone k .further, T (k .before .before .before) .before .before .loop-test .taken)
+loop-less c = let r = R (G c) in let k = K r in omega (arith, counted r .0, gone k .further, T (k .before .before .before) .before .before .loop-test .taken)
 
 loop-again : tie.Need-loop-again Inv-loop μ-loop
 loop-again c =
-    let f = c .before .before in
+    let f = R (G c) in
     let k = K f in
     let e = T (k .before .before .before) in
     let r = f .run-of .result in
     let i : L k .loop .count + (1 + r .count) ≡ L k .loop .count + 1 + r .count = omega arith in
-    (rw (i, ← run-tally (L k .loop .tally) (class k) (r .count) (below k)) (ran f .0), ran f .1, L k .loop .inv .2, later {i = to k} (omega (arith, counted f .0)) (rw (gone k .to-is) (e .ease .ensures .hold)), e .ease .ensures .same ∙ L k .loop .inv .4)
+    let v = L k .loop .inv in
+    let g = grows c in (
+      rw (i, ← run-tally (L k .loop .tally) (class k) (r .count) (below k)) (ran f .0),
+      ran f .1,
+      v .2,
+      later {i = to k} (omega (arith, counted f .0)) (rw (gone k .to-is) (e .ease .ensures .hold)),
+      e .ease .ensures .same ∙ v .4,
+      g,
+      c .before .grown .ensures .end-is,
+      omega (arith, c .before .grown .ensures .counted, v .7, counted f .0, gone k .further),
+      one-of (c .longer .ensures) (v .8) g,
+    )
 
 slice-aggregate-ended : tie.Need-slice-aggregate-ended Inv-loop μ-loop
 slice-aggregate-ended c = search needs
@@ -214,7 +277,7 @@ same-length-2 : tie.Need-same-length-2 Inv-loop μ-loop
 same-length-2 c = search needs
 
 returns-2 : tie.Need-returns-2 Inv-loop μ-loop
-returns-2 c = c .ended .ensures
+returns-2 c = (c .ended .ensures, c .before .before .before .loop .inv .8)
 
 pub walk-on-spec : {M : Type 1} → statement M
 walk-on-spec =
@@ -224,6 +287,7 @@ walk-on-spec =
     μ-loop
     no-pointers-requires
     no-hold-requires
+    no-stretch-requires
     loop-holds
     ease-requires
     slice-aggregate-turn
@@ -246,6 +310,10 @@ walk-on-spec =
     array-write-tally
     add-count
     add-count-2
+    sub-grown
+    add-grown
+    grown-requires
+    longer-requires
     loop-less
     loop-again
     slice-aggregate-ended

@@ -10,6 +10,8 @@ use Rattle.record.proofs.HeaderLaws.{size-there}
 use Rattle.judge.specs.Table.{Site, site, first, classAt, sizeAt, oneMore, Leads, here, on, next}
 use Rattle.finish.specs.Finish.{starts, put, Refuses, Filled, FinishedIs, refusedWith, Fillable, Filling}
 use Rattle.finish.specs.declared.Finished.{Finished}
+use Rattle.judge.specs.Stretch.{over, further}
+use Rattle.judge.specs.Stretch as J
 use Rattle.judge.proofs.WayLaws.{leads-le, counts, goes}
 
 pub filling-first : {a ix : List ℕ} → Fillable a ix → Filling a (set ix 0 0) (set ix 0 0) 1 3307
@@ -69,14 +71,14 @@ filling-next {a} {ix₀} {ix} {k} {i} f h e =
       same = sym (m .1) ∙ f .same;
     })
 
-over : {a : List ℕ} (ix : List ℕ) {x y : Site} (l : Leads a x y) → y .at ≤ x .at → (x .count ≡ y .count) × (put (x .count) (starts l) ix ≡ ix)
-over ix here h = (refl, refl)
-over ix (on s l) h = absurd (omega (arith, s .least, leads-le l))
+ended : {a : List ℕ} (ix : List ℕ) {x y : Site} (l : Leads a x y) → y .at ≤ x .at → (x .count ≡ y .count) × (put (x .count) (starts l) ix ≡ ix)
+ended ix here h = (refl, refl)
+ended ix (on s l) h = absurd (omega (arith, s .least, leads-le l))
 
 pub filling-last : {a ix₀ ix : List ℕ} {k i : ℕ} → Filling a (set ix₀ 0 0) ix k i → length a ≤ i → Filled a ix₀ k ix
 filling-last {ix = ix} f h =
     let q = f .asked in
-    let m = over ix (f .rest) (omega (arith, q .come, q .covered .ends)) in
+    let m = ended ix (f .rest) (omega (arith, q .come, q .covered .ends)) in
     record {
       covered = record { last = q .covered .last; way = q .covered .way; ends = q .covered .ends; counted = sym (m .0) };
       fits = omega (arith, m .0, q .covered .counted, simp length-set at (q .room));
@@ -97,6 +99,18 @@ moved-on {a} {i = i} {e = e} v n = go (ℕ-discrete e i)
     go : Dec (e ≡ i) → i < e
     go (yes q) = absurd (n (ap (sizeAt a) q ∙ sym (v .begun q)))
     go (no q) = omega (arith, v .from, q)
+
+-- ---- a stretch whose sizes are known
+pub even-step : {a : List ℕ} {z i j : ℕ} → J.Even a z i j → i < j → (z ≡ sizeAt a i) × J.Even a z (i + z) j
+even-step over h = absurd (omega arith)
+even-step (further e m) h = (sym e, m)
+
+-- from the record at byte i, with k starts in, to the one at byte e, with c starts in; up to byte `end` the sizes are z
+pub record Evenly (a ix₁ : List ℕ) (k i z end : ℕ) (ix : List ℕ) (c e : ℕ) : Type 0 where
+  pub kept : (ix₀ : List ℕ) → Filling a ix₀ ix₁ k i → Filling a ix₀ ix c e
+  pub stop : ℕ
+  pub even : J.Even a z e stop
+  pub within : end ≤ stop
 
 -- a refusal that is made is the one that is right
 pub refused-with : (a ix : List ℕ) {n p : ℕ} {r : Finished} → r ≡ refusedWith n p → Refuses a (length ix) n p → FinishedIs a ix r ix

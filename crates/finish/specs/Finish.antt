@@ -8,6 +8,7 @@ use Rattle.calendar.specs.Said.{refusing}
 use Rattle.mphr.specs.Table.{declared}
 use Rattle.judge.specs.Table.{Site, site, Leads, here, on, Clean, Given}
 use Rattle.judge.specs.Extent.{Short, Complete, Covered}
+use Rattle.judge.specs.Stretch.{Even}
 use Rattle.finish.specs.declared.Finished.{Finished}
 use Rattle.finish.specs.declared.Finished.the-variants.{Accepted, Refused}
 use Rattle.finish.specs.declared.Reached.{Reached}
@@ -62,11 +63,26 @@ pub record Filling (a ix₀ ix : List ℕ) (k i : ℕ) : Type 0 where
   pub size : length ix ≡ length ix₀
   pub same : put k (starts rest) ix ≡ put 1 (starts (asked .covered .way)) ix₀
 
--- what the filling of a stretch of records asks, and what it comes to
-pub record Stretch (a ix : List ℕ) (k i : ℕ) : Type 0 where
+-- what the filling of some records asks, and what it comes to
+pub record Onward (a ix : List ℕ) (k i : ℕ) : Type 0 where
   pub ix₀ : List ℕ
   pub filling : Filling a ix₀ ix k i
   pub inside : i < length a
+
+-- up to byte `until` the sizes have to be read
+pub record Unread (a ix : List ℕ) (k i until : ℕ) : Type 0 where
+  pub onward : Onward a ix k i
+  pub some : i < until
+  pub most : until ≤ length a
+
+-- up to byte `end` they are known to be z, one after the other
+pub record Read (a ix : List ℕ) (k i z end : ℕ) : Type 0 where
+  pub onward : Onward a ix k i
+  pub some : i < end
+  pub most : end ≤ length a
+  pub stop : ℕ
+  pub even : Even a z i stop
+  pub within : end ≤ stop
 
 pub record Stretched (a ix : List ℕ) (k i : ℕ) (r : Reached) (ix′ : List ℕ) : Type 0 where
   pub further : i < r .end

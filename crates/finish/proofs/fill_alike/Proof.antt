@@ -1,6 +1,6 @@
 -- `finish::fill_alike` meets its contract: after each store the index is as far as `Filling` says, wherever it was so at the start; and
 -- the first record has the size that is looked for, so that the stretch goes on. Assumes nothing.
-use Prim.Native.Nat.{ℕ, _-_}
+use Prim.Native.Nat.{ℕ, _-_, _<_}
 use native.Mathlib.Omega.{arith}
 use denote.Ref.{now}
 use mathlib.Core.Path.{_≡_, refl, sym, _∙_}
@@ -14,26 +14,29 @@ use Rattle.finish.proofs.fill_alike.Statement.{statement}
 use Rattle.finish.proofs.fill_alike.Tie as tie
 
 abbrev Inv-loop : tie.InvT-loop
-Inv-loop s index₀ k at size count₀ end₀ index count end = Alike s index₀ k at size index count end
+Inv-loop s index₀ k at until size count₀ end₀ index count end = Alike s index₀ k at size index count end
 
 abbrev μ-loop : tie.MeasureT-loop
-μ-loop s index₀ k at size count₀ end₀ index count end = length s - end
+μ-loop s index₀ k at until size count₀ end₀ index count end = until - end
 
 abbrev St : tie.At-loop Inv-loop μ-loop → tie.Start Inv-loop μ-loop
 St c = c .before .before .before .before
 
 -- an index that is as far, at the stretch's start and now
-known : (c : tie.At-loop Inv-loop μ-loop) → Filling (now (St c .args .s)) (St c .pre .ix₀) (c .loop .index) (c .loop .count) (c .loop .end)
-known c = c .loop .inv .kept (St c .pre .ix₀) (St c .pre .filling)
+known : (c : tie.At-loop Inv-loop μ-loop) → Filling (now (St c .args .s)) (St c .pre .onward .ix₀) (c .loop .index) (c .loop .count) (c .loop .end)
+known c = c .loop .inv .kept (St c .pre .onward .ix₀) (St c .pre .onward .filling)
 
-asked : (c : tie.At-loop Inv-loop μ-loop) → Fillable (now (St c .args .s)) (St c .pre .ix₀)
+asked : (c : tie.At-loop Inv-loop μ-loop) → Fillable (now (St c .args .s)) (St c .pre .onward .ix₀)
 asked c = known c .asked
 
+inside : (c : tie.In-loop Inv-loop μ-loop) → c .before .loop .end < length (now (St (c .before) .args .s))
+inside c = omega (arith, c .loop-test .taken, St (c .before) .pre .most)
+
 in-turn : (c : tie.In-loop Inv-loop μ-loop) → Within (now (St (c .before) .args .s)) (c .before .loop .index) (c .before .loop .count) (c .before .loop .end)
-in-turn c = within (known (c .before)) (c .loop-test .taken)
+in-turn c = within (known (c .before)) (inside c)
 
 first : (c : tie.After-slice-known Inv-loop μ-loop) → Within (now (c .before .before .args .s)) (now (c .before .before .args .index)) (c .before .before .args .k) (c .before .before .args .at)
-first c = let s = c .before .before in within (s .pre .filling) (s .pre .inside)
+first c = let s = c .before .before in within (s .pre .onward .filling) (s .pre .onward .inside)
 
 -- the size that is read in a turn
 here : (c : tie.After-size-at2 Inv-loop μ-loop) → c .size-at2 .result ≡ sizeAt (now (St (c .before .before) .args .s)) (c .before .before .loop .end)
@@ -49,7 +52,7 @@ size-at-requires-2 : tie.Need-size-at-requires-2 Inv-loop μ-loop
 size-at-requires-2 c κs = search needs
 
 same-length : tie.Need-same-length Inv-loop μ-loop
-same-length c = omega (arith, known (c .before .before .before) .size, St (c .before .before .before) .pre .filling .size)
+same-length c = omega (arith, known (c .before .before .before) .size, St (c .before .before .before) .pre .onward .filling .size)
 
 returns : tie.Need-returns Inv-loop μ-loop
 returns c =
@@ -84,18 +87,18 @@ loop-again c =
     let v = i .before .loop .inv in
     let z = sym (c .if1 .left) ∙ here (c .before) in
     record {
-      kept = λ ix₀ f. filling-next (v .kept ix₀ f) (i .loop-test .taken) z;
+      kept = λ ix₀ f. filling-next (v .kept ix₀ f) (inside i) z;
       from = omega (arith, v .from);
       begun = λ e. absurd (omega (arith, v .from, in-turn i .least, z));
     }
 
 same-length-2 : tie.Need-same-length-2 Inv-loop μ-loop
-same-length-2 c = omega (arith, known (c .before) .size, St (c .before) .pre .filling .size)
+same-length-2 c = omega (arith, known (c .before) .size, St (c .before) .pre .onward .filling .size)
 
 returns-2 : tie.Need-returns-2 Inv-loop μ-loop
 returns-2 c =
     let l = c .before in
-    record { further = omega (arith, St l .pre .inside, c .loop-test .left); filling = l .loop .inv .kept }
+    record { further = omega (arith, St l .pre .some, c .loop-test .left); filling = l .loop .inv .kept }
 
 pub fill-alike-spec : {M : Type 1} → statement M
 fill-alike-spec =

@@ -3,7 +3,7 @@
 use borrow.Author.Needs.{needs}
 use native.Mathlib.Omega.{arith}
 use denote.Ref.{now}
-use mathlib.Core.Path.{_≡_, refl}
+use mathlib.Core.Path.{_≡_, refl, subst}
 use Rattle.mphr.proofs.Export.{sized}
 use Rattle.judge.specs.Extent.{Complete, Covered, ExtentIs}
 use Rattle.judge.specs.declared.arrival.Extent.{Extent}
@@ -14,23 +14,23 @@ use Rattle.finish.proofs.Filling.{refused-with}
 use Rattle.finish.proofs.judge_finished.Statement.{statement}
 use Rattle.finish.proofs.judge_finished.Tie as tie
 
-abbrev S : tie.After-judge-extent → tie.Start
+abbrev S : tie.After-survey → tie.Start
 S c = c .before .before .before
 
-told : (c : tie.After-judge-extent) (r : Extent) → c .judge-extent .result ≡ r → ExtentIs (now (S c .args .s)) r
-told c r e = rw e at (c .judge-extent .ensures)
+told : (c : tie.After-survey) (r : Extent) → c .survey .result .extent ≡ r → ExtentIs (now (S c .args .s)) r
+told c r e = subst (ExtentIs (now (S c .args .s))) e (c .survey .ensures .0)
 
-abbrev J : tie.After-known-told2 → tie.After-judge-extent
-J c = c .before .before .before
+abbrev J : tie.After-known-told2 → tie.After-survey
+J c = c .before .before .before .before
 
-entire : (c : tie.After-known-told2) → Complete (now (S (J c) .args .s)) × Covered (now (S (J c) .args .s)) (c .before .count .given .0 .0)
-entire c = let g = c .before .count .given in told (J c) (Entire (g .0 .0)) (g .1)
+entire : (c : tie.After-known-told2) → Complete (now (S (J c) .args .s)) × Covered (now (S (J c) .args .s)) (c .before .extent2 .given .0 .0)
+entire c = let g = c .before .extent2 .given in told (J c) (Entire (g .0 .0)) (g .1)
 
-judge-extent-requires : tie.Need-judge-extent-requires
-judge-extent-requires c κs = search needs
+survey-requires : tie.Need-survey-requires
+survey-requires c κs = search needs
 
-enum-known-r : tie.Need-enum-known-r
-enum-known-r c = search needs
+enum-known-extent : tie.Need-enum-known-extent
+enum-known-extent c = search needs
 
 enum-told : tie.Need-enum-told
 enum-told c = search needs
@@ -38,8 +38,8 @@ enum-told c = search needs
 refused-requires : tie.Need-refused-requires
 refused-requires c κs = search needs
 
-enum-known-count : tie.Need-enum-known-count
-enum-known-count c = search needs
+enum-known-extent-2 : tie.Need-enum-known-extent-2
+enum-known-extent-2 c = search needs
 
 refused-requires-2 : tie.Need-refused-requires-2
 refused-requires-2 c κs = search needs
@@ -54,14 +54,14 @@ fill-requires c κs =
     let k = c .before .before in
     let e = entire k in
     let w = whole-come (e .0) in
-    record { count = k .before .count .given .0 .0; covered = e .1; come = w; small = omega (arith, w, sized (complete-fine (e .0))); room = c .before .if1 .left }
+    (record { count = k .before .extent2 .given .0 .0; covered = e .1; come = w; small = omega (arith, w, sized (complete-fine (e .0))); room = c .before .if1 .left }, J k .survey .ensures .1)
 
 returns-2 : tie.Need-returns-2
-returns-2 c = let g = c .before .r .given in (faulty (told (c .before .before .before) (Refused (g .0 .0)) (g .1)), refl)
+returns-2 c = let g = c .before .extent .given in (faulty (told (c .before .before .before .before) (Refused (g .0 .0)) (g .1)), refl)
 
 returns-3 : tie.Need-returns-3
 returns-3 c =
-    let j = c .before .before .before in
+    let j = c .before .before .before .before in
     let p = told j Part (c .before .enum-told .given .1) in
     refused-with (now (S j .args .s)) _ (c .refused .ensures) (short (p .0) (p .1))
 
@@ -75,11 +75,11 @@ pub judge-finished-spec : {M : Type 1} → statement M
 judge-finished-spec =
     tie.close
     (tie.spec
-    judge-extent-requires
-    enum-known-r
+    survey-requires
+    enum-known-extent
     enum-told
     refused-requires
-    enum-known-count
+    enum-known-extent-2
     refused-requires-2
     returns
     fill-requires

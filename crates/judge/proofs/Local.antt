@@ -10,13 +10,15 @@ use mathlib.Core.List.{List, _++_}
 use lib.ListN.{length, length-append, List·getD-append}
 use Rattle.meter.specs.Integer.{beAt}
 use Rattle.record.proofs.TimesLaws.{timed-same}
-use Rattle.text.proofs.Same.{Same, same-back}
-use Rattle.mphr.specs.Table.{declared, total, Row, fault, Before}
+use Rattle.tables.specs.Table.{fault}
+use Rattle.tables.specs.Same.{Same, Local}
+use Rattle.tables.proofs.Laws.{same-back, shown-is}
+use Rattle.mphr.specs.Table.{declared, total}
 use Rattle.mphr.proofs.Prefix.{fine-on}
 use Rattle.mphr.proofs.Prefix as M
 use Rattle.mphr.proofs.Export.{sized}
 use Rattle.mphr.proofs.TurnLaws.{shown-most}
-use Rattle.judge.specs.Table.{Site, site, first, classAt, kindAt, sizeAt, aimClass, aimAt, offsetAt, Sound, Leads, here, on, Target, Pointer, Wrong, part-left, unknown, misplaced, bad-size, bad-times, surplus, bad-target, points-inside, points-at-other, too-few, rowAt, Fault, main, at, too-long, row, shown, Whole, Open}
+use Rattle.judge.specs.Table.{Site, site, first, classAt, kindAt, sizeAt, aimClass, aimAt, offsetAt, Sound, Leads, here, on, Target, Pointer, Wrong, part-left, unknown, misplaced, bad-size, bad-times, surplus, bad-target, points-inside, points-at-other, too-few, rowAt, Fault, main, at, too-long, row, shown, table, Whole, Open}
 use Rattle.judge.specs.Turning.{Onward, Turn}
 use Rattle.judge.proofs.RankLaws.{class-most}
 use Rattle.judge.proofs.WayLaws.{leads-le, counts, linear, ends-by, facts, goes, met}
@@ -110,6 +112,9 @@ local {a} {k = k} same (too-long d) h =
     let m : 3307 ≤ k = omega (arith, sized d) in
     (too-long (fine-on same m d), ap (λ (d : ℕ). fault 16 d (d + 1)) (declared-on same m))
 
+pub locality : Local table
+locality = record { alike = local }
+
 -- THE WALK'S PLACE STAYS: what the walk knows at x it knows in each arrival that has the same bytes up to x
 within : {a : List ℕ} {x : Site} (w : Wrong a x) → Sound a (x .at) → rowAt w .shown ≤ x .at + sizeAt a (x .at)
 within (part-left u v) s = omega (arith, s .least)
@@ -131,7 +136,7 @@ module _ {a b : List ℕ} {x : Site} (same : Same a b (x .at)) (come : x .at ≤
   way-on = leads-on same far (t .way) (omega arith)
 
   past-on : (g : Fault b) → shown g ≤ length b → Onward x g
-  past-on (main g) h = let f = M.local (same-back same) g (omega (arith, shown-most g, far)) in t .past (main (f .0)) (omega (arith, ap (λ (r : Row). r .shown) (f .1), shown-most g, far, t .come))
+  past-on (main g) h = let f = M.local (same-back same) g (omega (arith, shown-most g, far)) in t .past (main (f .0)) (omega (arith, shown-is (f .1), shown-most g, far, t .come))
   past-on (too-long f) h = tt
   past-on (at f y l w) h = ⊎-elim (λ m. m) (λ m. go m) (linear way-on l)
     where
@@ -139,7 +144,7 @@ module _ {a b : List ℕ} {x : Site} (same : Same a b (x .at)) (come : x .at ≤
       before m d =
           let s = goes m d in
           let v = wrong-on (same-back same) far l w (omega (arith, within w (s .0), leads-le (s .1))) in
-          let k = t .past (at (fine-on (same-back same) far f) y (leads-on (same-back same) far l (omega arith)) (v .0)) (omega (arith, ap (λ (r : Row). r .shown) (v .1), within w (s .0), leads-le (s .1), t .come)) in
+          let k = t .past (at (fine-on (same-back same) far f) y (leads-on (same-back same) far l (omega arith)) (v .0)) (omega (arith, shown-is (v .1), within w (s .0), leads-le (s .1), t .come)) in
           absurd (omega (arith, leads-le k))
 
       go : Leads b y x → Leads b x y

@@ -8,8 +8,9 @@ use mathlib.Core.Path.{_≡_, refl, sym, _∙_, ap}
 use mathlib.Core.Logic.{_⊎_, inl, inr, ⊎-elim}
 use mathlib.Core.List.{List}
 use lib.ListN.{length, getD}
-use Rattle.mphr.specs.Table.{declared, total, Row, fault, Fine}
-use Rattle.judge.specs.Table.{Site, site, first, classAt, kindAt, sizeAt, aimClass, aimAt, offsetAt, Sound, Leads, here, on, next, Target, Pointer, Head, Wrong, part-left, unknown, misplaced, bad-size, bad-times, surplus, bad-target, points-inside, points-at-other, too-few, rowAt}
+use Rattle.mphr.specs.Table.{declared}
+use Rattle.mphr.proofs.Export as M
+use Rattle.judge.specs.Table.{Site, site, first, classAt, kindAt, sizeAt, aimClass, aimAt, offsetAt, Sound, Leads, here, on, next, Target, Pointer, Head, Wrong, part-left, unknown, misplaced, bad-size, bad-times, surplus, bad-target, points-inside, points-at-other, too-few, rowAt, Fault, main, at, too-long, number}
 
 pub leads-le : {a : List ℕ} {x y : Site} → Leads a x y → x .at ≤ y .at
 leads-le {x = x} here = le-refl (x .at)
@@ -107,3 +108,9 @@ facts (bad-target s o c) = let z = s .ipr o in omega (arith, s .most)
 facts (points-inside q p r b u v) = omega arith
 facts (points-at-other q p r b e c) = omega arith
 facts (too-few e c l u v) = omega arith
+
+-- a fault's number
+pub numbers : {a : List ℕ} (f : Fault a) → (1 ≤ number f) × (number f ≤ 16)
+numbers (main g) = omega (arith, M.numbers g)
+numbers (at _ x _ w) = omega (arith, facts w .six, facts w .most)
+numbers (too-long _) = omega arith

@@ -8,7 +8,7 @@ use Prim.Native.Nat.{ℕ, _+_, _*_, _≤_, _<_}
 use native.Mathlib.Omega.{arith}
 use native.Mathlib.Decide.{ℕ-discrete, decLe, decLt}
 use lib.ListN.{length, getD}
-use Rattle.mphr.specs.Table.{headed, timed, framed, valued, declared, total, sum, Sums, bad-frame, bad-value, Fault, bad-header, bad-line, bad-size, bad-totals, bad-times, row, number, place, shown, Given, Clean, Fine}
+use Rattle.mphr.specs.Table.{framed, valued, declared, total, sum, Sums, bad-frame, bad-value, Fault, bad-header, bad-line, bad-size, bad-totals, bad-times, number, shown, Clean, Fine}
 use Rattle.calendar.specs.Said.{answer}
 use lib.IntN.{pos}
 use Rattle.text.specs.Field.{isNumber, isValue, numberReadAt}
@@ -23,6 +23,15 @@ clean-whole l c g = c g (omega (arith, shown-most g))
 
 pub clean-fine : {a : List ℕ} → 3307 ≤ length a → Clean a → Fine a
 clean-fine l c g _ = clean-whole l c g
+
+-- a fault's number
+pub numbers : {a : List ℕ} (g : Fault a) → (1 ≤ number g) × (number g ≤ 10)
+numbers (bad-header _) = omega arith
+numbers (bad-line k _ (bad-frame _)) = omega arith
+numbers (bad-line k _ (bad-value _)) = omega arith
+numbers (bad-size _ _) = omega arith
+numbers (bad-totals _ _) = omega arith
+numbers (bad-times _) = omega arith
 
 -- each line of a fine header has its name and a value of its kind
 pub fine-framed : {a : List ℕ} → Fine a → (k : ℕ) → k < 72 → framed a k ≡ true

@@ -45,11 +45,8 @@ pub give :
     {a : List ℕ} {k : ℕ} (f : Fault a) → Past a k → stage f ≡ suc k → lineStart (suc k) ≤ length a
     → ((g : Fault a) → stage g ≡ suc k → (number f ≤ number g) × (number f ≡ number g → place f ≤ place g)) → Given a (number f) (place f)
 give {a} {k} f past e come low = record {
-  fault = f;
-  numbered = refl;
-  placed = refl;
-  seen = omega (arith, shown-is f, ap lineStart e);
-  best = λ g _. best g (ℕ-discrete (stage g) (suc k));
+  shown = shown f;
+  gives = record { fault = f; is = refl; seen = omega (arith, shown-is f, ap lineStart e); best = λ g _. best g (ℕ-discrete (stage g) (suc k)) };
 }
   where
     best : (g : Fault a) → Dec (stage g ≡ suc k) → Before (row f) (row g)
@@ -74,11 +71,8 @@ wait-first l g s = omega (arith, shown-is g, start-mono {j = 0} {k = stage g} (o
 first : {a : List ℕ} (f : Fault a) → stage f ≡ 0 → 20 ≤ length a → ((g : Fault a) → stage g ≡ 0 → (number f ≤ number g) × (number f ≡ number g → place f ≤ place g)) → Given a (number f) (place f)
 unfolding lineStart
 first {a} f e come low = record {
-  fault = f;
-  numbered = refl;
-  placed = refl;
-  seen = omega (arith, shown-is f, ap lineStart e);
-  best = λ g _. best g (ℕ-discrete (stage g) 0);
+  shown = shown f;
+  gives = record { fault = f; is = refl; seen = omega (arith, shown-is f, ap lineStart e); best = λ g _. best g (ℕ-discrete (stage g) 0) };
 }
   where
     best : (g : Fault a) → Dec (stage g ≡ 0) → Before (row f) (row g)

@@ -30,7 +30,8 @@ use Rattle.text.specs.declared.Number.{Number}
 use Rattle.text.specs.declared.Number.the-variants as N
 use Rattle.text.proofs.Exact.{is-small}
 use Rattle.text.proofs.Meaning.{number-means, means-number}
-use Rattle.text.proofs.Same.{Same, value-same}
+use Rattle.tables.specs.Same.{Same}
+use Rattle.text.proofs.Same.{value-same}
 use Rattle.mphr.specs.Layout.{fields, widths, kinds, widthOf, kindOf, lineStart, fieldOf}
 use Rattle.mphr.specs.Table.{headed, valued, bad-header, bad-times}
 use Rattle.mphr.specs.declared.layout.Place.{Place}

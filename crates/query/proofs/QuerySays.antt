@@ -7,20 +7,15 @@ use mathlib.Core.Logic.{inl, inr}
 use mathlib.Core.List.{List, _∷_}
 use lib.ListN.{length, getD}
 use Rattle.record.specs.Header.{headerAt}
-use Rattle.judge.specs.Table.{Site, Leads, here, on, Open}
-use Rattle.judge.specs.Extent.{Complete, Covered}
+use Rattle.judge.specs.Table.{Site, Leads, here, on}
 use Rattle.finish.specs.Finish.{starts, Filled, FinishedIs}
 use Rattle.query.specs.Query.{StartOf, RecordIs}
 use Rattle.finish.specs.declared.Finished.the-variants.{Accepted}
 use Rattle.query.specs.declared.RecordAnswer.{RecordAnswer}
 use Rattle.query.specs.declared.RecordAnswer.the-variants.{Record}
-use Rattle.judge.proofs.Covering.{whole-come}
 use Rattle.demands.proofs.Put.{put-at}
+use Rattle.demands.proofs.Counting.{starts-length, ends-whole}
 use Rattle.query.proofs.QueryDetermined.{unique-record-at}
-
-starts-length : {a : List ℕ} {x y : Site} (l : Leads a x y) → x .count + length (starts l) ≡ y .count
-starts-length here = omega arith
-starts-length (on s l) = omega (arith, starts-length l)
 
 -- the j-th start is that of the record j places on
 pub record Nth (a : List ℕ) (x : Site) (j i : ℕ) : Type 0 where
@@ -35,21 +30,6 @@ nth-start (on {x = x} s l) zero h = record { spot = x; way = here; numbered = om
 nth-start (on s l) (suc j) h =
     let n = nth-start l j (omega arith) in
     record { spot = n .spot; way = on s (n .way); numbered = omega (arith, n .numbered); begins = n .begins }
-
-ends-whole : {a : List ℕ} {c : ℕ} → Complete a → (v : Covered a c) → Open a c (v .last .at)
-ends-whole {a} {c} k v = record {
-  clean = k .clean;
-  whole = inr (
-    k .header,
-    record {
-      prev = v .last .prev;
-      tally = v .last .tally;
-      way = rw (v .counted) at (v .way);
-      come = omega (arith, v .ends, whole-come k);
-      last = λ s. absurd (omega (arith, s .room, v .ends));
-    },
-  );
-}
 
 -- record k starts where the index says
 indexed : {a ix ix′ : List ℕ} {c k : ℕ} → Filled a ix c ix′ → k < c → StartOf a k (getD ix′ k 0)

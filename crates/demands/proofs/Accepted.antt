@@ -5,7 +5,7 @@ use Prim.Native.Nat.{ℕ, suc, _+_, _≤_, _<_}
 use native.Mathlib.Decide.{decLe, decLt, ℕ-discrete}
 use native.Mathlib.Omega.{arith}
 use mathlib.Core.Path.{_≡_, refl, sym, _∙_, ap}
-use mathlib.Core.Bool.{Bool, true, false, true≢false, cond, _&&_}
+use mathlib.Core.Bool.{Bool, true, cond, _&&_}
 use mathlib.Core.Logic.{_⊎_, inl, inr, ⊎-elim}
 use mathlib.Core.List.{List, _∷_, List·Memᴰ as In, List·Memᴰ·head as top, List·Memᴰ·tail as pop, List·Memᴰ·not-nil as nil}
 use borrow.Author.Tests.{eq-eqb, ne-eqb}
@@ -33,18 +33,11 @@ use Rattle.finish.specs.declared.Finished.the-variants.{Accepted, Refused}
 use Rattle.judge.proofs.WayLaws.{leads-le, snoc, trans, linear, holds, target?}
 use Rattle.demands.proofs.Prefix.{unique-given}
 use Rattle.tables.proofs.Laws.{not-clean}
+use Rattle.tables.proofs.Passing.{passes, clash}
 use Rattle.mphr.proofs.Prefix.{same-refusal}
 use Rattle.judge.proofs.RankLaws.{class-most}
 use Rattle.demands.proofs.Accept.{no-main, not-wrong, complete-covered}
 use Rattle.judge.proofs.Covering.{complete-fine, whole-come}
-
--- a test that is not refused
-pub passes : (b : Bool) → (b ≡ false → ⊥) → b ≡ true
-passes true n = refl
-passes false n = absurd (n refl)
-
-clash : {b : Bool} → b ≡ true → b ≡ false → ⊥
-clash t f = true≢false (sym t ∙ f)
 
 -- ---- THE COUNT of each class
 

@@ -6,7 +6,7 @@ use native.Mathlib.Numerals.{add-one}
 use native.Mathlib.Omega.{arith}
 use mathlib.Core.Path.{_≡_, refl, sym, ap, _∙_}
 use mathlib.Core.Bool.{_&&_, true}
-use mathlib.Core.Logic.{_⊎_, inl, inr}
+use mathlib.Core.Logic.{inl, inr, ⊎-elim}
 use mathlib.Core.List.{List, _∷_, _++_}
 use borrow.Author.Tests.{eqb-true}
 use lib.Dec.{eqb}
@@ -14,19 +14,18 @@ use lib.ListN.{length, getD}
 use Rattle.meter.specs.Integer.{beAt}
 use Rattle.meter.proofs.GeneralRuns.{and-true}
 use Rattle.tables.proofs.Laws.{begins, longer}
+use Rattle.tables.proofs.Passing.{passes}
 use Rattle.mphr.specs.Table.{headed}
 use Rattle.mphr.specs.Table as M
-use Rattle.judge.specs.Table.{Site, first, Leads, here, on, main, Clean, Open}
+use Rattle.judge.specs.Table.{Site, site, first, next, Leads, here, on, main, Clean, Open}
 use Rattle.judge.specs.Extent.{Complete, Covered}
-use Rattle.finish.specs.Finish.{starts, put, Filled}
+use Rattle.finish.specs.Finish.{starts, Filled}
 use Rattle.judge.proofs.WayLaws.{leads-le}
-use Rattle.judge.proofs.Local.{be-on, OpenAt}
+use Rattle.judge.proofs.Local.{be-on, OpenAt, no-fewer}
 use Rattle.judge.proofs.Covering.{whole-come}
 use Rattle.demands.specs.Product.{size}
 use Rattle.demands.specs.Demands.{start, Counted, Stays, Grows}
 use Rattle.demands.proofs.Put.{put-at}
-use Rattle.demands.proofs.Prefix.{no-fewer}
-use Rattle.demands.proofs.Accepted.{passes}
 
 -- ---- the main header
 pub main-size : (a : List ℕ) → headed a ≡ true → size a 0 ≡ 3307
@@ -49,49 +48,58 @@ start-at : {a : List ℕ} {x y : Site} → Leads a x y → start a (x .count) �
 start-at here e = e
 start-at {a} {x} (on s l) e = start-at l (start-next a (x .count) (x .at) e)
 
--- a record on the way has its header, and ends no later than the way
-within : {a : List ℕ} {x y : Site} → Leads a x y → start a (x .count) ≡ x .at → (k : ℕ) → x .count ≤ k → k < y .count → (20 ≤ size a (start a k)) × (start a k + size a (start a k) ≤ y .at)
-within here e k l u = absurd (omega arith)
-within {a} {x} {y} (on s m) e k l u = go (ℕ-discrete (x .count) k) (λ h. within m (start-next a (x .count) (x .at) e) k h u)
+-- record k is on the way, has its header, and ends no later than the way
+pub record Nth (a : List ℕ) (x y : Site) (k : ℕ) : Type 0 where
+  pub spot : Site
+  pub way : Leads a x spot
+  pub numbered : spot .count ≡ k
+  pub begins : spot .at ≡ start a k
+  pub least : 20 ≤ size a (start a k)
+  pub within : start a k + size a (start a k) ≤ y .at
+
+nth : {a : List ℕ} {x y : Site} → Leads a x y → start a (x .count) ≡ x .at → (k : ℕ) → x .count ≤ k → k < y .count → Nth a x y k
+nth here e k l u = absurd (omega arith)
+nth {a} {x} {y} (on s m) e k l u = go (ℕ-discrete (x .count) k) (λ h. nth m (start-next a (x .count) (x .at) e) k h u)
   where
-    go : Dec (x .count ≡ k) → (x .count + 1 ≤ k → (20 ≤ size a (start a k)) × (start a k + size a (start a k) ≤ y .at)) → (20 ≤ size a (start a k)) × (start a k + size a (start a k) ≤ y .at)
-    go (yes d) f = rw (← d, e) (s .least, leads-le m)
-    go (no d) f = f (omega (arith, d))
+    go : Dec (x .count ≡ k) → (x .count + 1 ≤ k → Nth a (next a x) y k) → Nth a x y k
+    go (yes d) f = let b : start a k ≡ x .at = ap (start a) (sym d) ∙ e in record { spot = x; way = here; numbered = d; begins = sym b; least = rw b (s .least); within = rw b (leads-le m) }
+    go (no d) f = let n = f (omega (arith, d)) in record { spot = n .spot; way = on s (n .way); numbered = n .numbered; begins = n .begins; least = n .least; within = n .within }
 
 starts-at : {a : List ℕ} {x y : Site} (l : Leads a x y) → start a (x .count) ≡ x .at → (j : ℕ) → j < length (starts l) → getD (starts l) j 0 ≡ start a (x .count + j)
 starts-at here e j h = absurd (omega arith)
 starts-at {a} {x} (on s l) e zero h = sym e ∙ ap (start a) (omega arith)
 starts-at {a} {x} (on s l) e (suc j) h = starts-at l (start-next a (x .count) (x .at) e) j (omega arith) ∙ ap (start a) (omega arith)
 
-pub starts-length : {a : List ℕ} {x y : Site} (l : Leads a x y) → x .count + length (starts l) ≡ y .count
+starts-length : {a : List ℕ} {x y : Site} (l : Leads a x y) → x .count + length (starts l) ≡ y .count
 starts-length here = omega arith
 starts-length (on s l) = omega (arith, starts-length l)
 
 -- ---- WHAT IS COUNTED
-pub counts-are : {a : List ℕ} {c e : ℕ} → Open a c e → Counted a c e
-unfolding start
-counts-are {a} {c} {e} o = go (o .whole)
+-- a record after the main header
+pub later : {a : List ℕ} {c e : ℕ} → Open a c e → (k : ℕ) → 1 ≤ k → k < c → (y : Site) × Nth a first y k × (y .at ≡ e)
+later {a} {c} {e} o k l u = go (o .whole)
   where
-    go : OpenAt a c e → Counted a c e
-    go (inl z) = record { main = λ h. absurd (omega arith); end = rw (z .1) (sym (z .2)); come = omega arith }
-    go (inr (h, w)) = let z = clean-size (o .clean) h in record { main = λ _. z; end = start-at (w .way) (start-first a z); come = w .come }
+    go : OpenAt a c e → (y : Site) × Nth a first y k × (y .at ≡ e)
+    go (inl z) = absurd (omega arith)
+    go (inr (h, w)) = (site c e (w .prev) (w .tally), nth (w .way) (start-first a (clean-size (o .clean) h)) k l u, refl)
 
 module _ {a : List ℕ} {c e : ℕ} (o : Open a c e) where
   whole : (k : ℕ) → k < c → (20 ≤ size a (start a k)) × (start a k + size a (start a k) ≤ e)
   unfolding start
-  whole k h = go k refl (o .whole)
-    where
-      go : (j : ℕ) → k ≡ j → OpenAt a c e → (20 ≤ size a (start a k)) × (start a k + size a (start a k) ≤ e)
-      go j d (inl z) = absurd (omega arith)
-      go zero d (inr (m, w)) = rw d (omega (arith, clean-size (o .clean) m, leads-le (w .way)))
-      go (suc j) d (inr (m, w)) = within (w .way) (start-first a (clean-size (o .clean) m)) k (omega arith) h
+  whole zero h = ⊎-elim (λ z. absurd (omega arith)) (λ w. omega (arith, clean-size (o .clean) (w .0), leads-le (w .1 .way))) (o .whole)
+  whole (suc k) h = let n = later o (suc k) (omega arith) h in omega (arith, n .1 .least, n .1 .within, n .2)
 
-  come : e ≤ length a
-  come = counts-are o .come
+  pub counts-are : Counted a c e
+  unfolding start
+  counts-are = go (o .whole)
+    where
+      go : OpenAt a c e → Counted a c e
+      go (inl z) = record { main = λ h. absurd (omega arith); within = λ k h. whole k h .1; end = rw (z .1) (sym (z .2)); come = omega arith }
+      go (inr (h, w)) = let z = clean-size (o .clean) h in record { main = λ _. z; within = λ k h. whole k h .1; end = start-at (w .way) (start-first a z); come = w .come }
 
   module _ (t : List ℕ) where
     same-size : (k : ℕ) → k < c → size (a ++ t) (start a k) ≡ size a (start a k)
-    same-size k h = sym (be-on (begins a t) (start a k + 4) 4 (omega (arith, whole k h, come)))
+    same-size k h = sym (be-on (begins a t) (start a k + 4) 4 (omega (arith, whole k h, counts-are .come)))
 
     same-start : (k : ℕ) → k ≤ c → start (a ++ t) k ≡ start a k
     unfolding start
@@ -103,7 +111,7 @@ module _ {a : List ℕ} {c e : ℕ} (o : Open a c e) where
     stays k h = let e = same-start k (omega arith) in record { place = e; sized = rw e (same-size k h) }
 
     pub grows : {n d : ℕ} → Open (a ++ t) n d → Grows a c e (a ++ t) n d
-    grows q = let g = no-fewer a t o q in record { count = g .0; end = g .1; each = stays }
+    grows q = let g = no-fewer (begins a t) (longer a t) o q in record { count = g .0; end = g .1; each = stays }
 
 -- ---- WHAT IS ACCEPTED, as an arrival: its last record ends at its last byte
 pub ends-whole : {a : List ℕ} {c : ℕ} → Complete a → (v : Covered a c) → Open a c (v .last .at)

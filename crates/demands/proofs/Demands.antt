@@ -8,16 +8,17 @@ use mathlib.Core.List.{List, _++_}
 use lib.ListN.{length, getD}
 use Rattle.calendar.specs.declared.Refusal.{Refusal}
 use Rattle.tables.specs.Table.{fault}
-use Rattle.tables.proofs.Laws.{given, not-clean, number-is}
-use Rattle.judge.specs.Table.{Clean, Gives, Given, Judged}
+use Rattle.tables.proofs.Laws.{given, not-clean, number-is, nothing-earlier, never-later}
+use Rattle.judge.specs.Table.{table, Clean, Gives, Given, Judged}
 use Rattle.judge.specs.declared.arrival.Arrival.{Arrival}
 use Rattle.judge.specs.declared.arrival.Arrival.the-variants.{Waiting, Refused}
 use Rattle.finish.specs.Finish.{Refuses, faulty, short, no-room, FinishedIs}
 use Rattle.finish.specs.declared.Finished.the-variants as F
 use Rattle.judge.proofs.WayLaws.{numbers}
+use Rattle.judge.proofs.Local.{lawful}
 use Rattle.judge.proofs.Covering.{whole-come}
 use Rattle.demands.specs.Demands.{start, Grows, Comes, Demand1, Demand2, Demand3}
-use Rattle.demands.proofs.Prefix.{nothing-earlier, never-later, unique-arrival, refusal-kept, refusal-final}
+use Rattle.demands.proofs.Prefix.{unique-arrival, refusal-kept, refusal-final}
 use Rattle.demands.proofs.Accepted.{accepted-meets, meets-accepted}
 use Rattle.demands.proofs.Counting.{counts-are, grows, ends-whole, indexed}
 
@@ -51,8 +52,8 @@ comes : (a : List ℕ) (r : Refusal) → Given a (r .number) (r .place) → Come
 comes a r g = record {
   shown = g .shown;
   gives = g .gives;
-  waits = λ b t e h. waits (nothing-earlier b t (at-prefix e) h);
-  refused = λ b t e h s j. unique-arrival b s (Refused r) j (given (never-later b t (at-prefix e) h));
+  waits = λ b t e h. waits (nothing-earlier table lawful b t (at-prefix e) h);
+  refused = λ b t e h s j. unique-arrival b s (Refused r) j (given (never-later table lawful b t (at-prefix e) h));
 }
   where
     at-prefix : {d : List ℕ} → d ≡ a → Gives d (fault (r .number) (r .place) (g .shown))

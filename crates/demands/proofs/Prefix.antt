@@ -1,53 +1,28 @@
 -- DEMAND 3, THE PREFIX LAW: a fault that is shown at k depends on the first k bytes alone. So a refusal stays for every longer arrival and for the
--- finished product; no fewer are counted; a fault is given at the shortest arrival that shows it and at none before; and one answer at most is right.
+-- finished product; a fault is given at the shortest arrival that shows it and at none before; and one answer at most is right.
 -- By the laws of every table (`tables`) and the judge's locality. Assumes nothing.
-use Prim.Native.Nat.{ℕ, _≤_, _<_}
-use native.Mathlib.Omega.{arith}
+use Prim.Native.Nat.{ℕ}
 use mathlib.Core.Path.{_≡_, ap}
-use mathlib.Core.Logic.{_⊎_, inl, inr, ⊎-elim}
 use mathlib.Core.List.{List, _++_}
 use lib.ListN.{length}
 use Rattle.calendar.specs.Said.{refusing}
-use Rattle.tables.specs.Table.{Row}
-use Rattle.tables.proofs.Laws.{begins, longer, not-clean}
+use Rattle.tables.proofs.Laws.{not-clean}
 use Rattle.tables.proofs.Laws as L
 use Rattle.mphr.proofs.Prefix.{same-refusal}
-use Rattle.judge.specs.Table.{table, Clean, Gives, Given, Open, Judged}
+use Rattle.judge.specs.Table.{table, Given, Judged}
 use Rattle.finish.specs.Finish.{Refuses, faulty, short, no-room, FinishedIs, refusedWith}
 use Rattle.judge.specs.declared.arrival.Arrival.{Arrival}
 use Rattle.judge.specs.declared.arrival.Arrival.the-variants.{Waiting, Refused}
 use Rattle.finish.specs.declared.Finished.{Finished}
 use Rattle.finish.specs.declared.Finished.the-variants as F
-use Rattle.judge.proofs.WayLaws.{leads-le, counts, linear}
-use Rattle.judge.proofs.Local.{leads-on, locality, stay, OpenAt, unique-open}
+use Rattle.judge.proofs.Local.{lawful, unique-open}
 
 -- what holds of every table, of this one
-module _ (a t : List ℕ) where
-  pub stays-refused : {n p : ℕ} → Given a n p → Given (a ++ t) n p
-  stays-refused = L.stays-refused table locality a t
-
-  pub stays-clean : Clean (a ++ t) → Clean a
-  stays-clean = L.stays-clean table locality a t
-
-  pub nothing-earlier : {r : Row} → Gives (a ++ t) r → length a < r .shown → Clean a
-  nothing-earlier = L.nothing-earlier table locality a t
-
-  pub never-later : {r : Row} → Gives (a ++ t) r → r .shown ≤ length a → Gives a r
-  never-later = L.never-later table locality a t
+stays-refused : (a t : List ℕ) {n p : ℕ} → Given a n p → Given (a ++ t) n p
+stays-refused = L.stays-refused table lawful
 
 pub unique-given : {a : List ℕ} {n p n′ p′ : ℕ} → Given a n p → Given a n′ p′ → (n ≡ n′) × (p ≡ p′)
-unique-given = L.unique-given table (λ _ _ e. e)
-
--- no fewer records are whole in a longer arrival, and they end no earlier
-pub no-fewer : (a t : List ℕ) {c e c′ e′ : ℕ} → Open a c e → Open (a ++ t) c′ e′ → (c ≤ c′) × (e ≤ e′)
-no-fewer a t {c} {e} {c′} {e′} o o′ = go (o .whole) (o′ .whole)
-  where
-    go : OpenAt a c e → OpenAt (a ++ t) c′ e′ → (c ≤ c′) × (e ≤ e′)
-    go (inl z) _ = omega arith
-    go (inr w) (inl z) = absurd (omega (arith, longer a t))
-    go (inr (h, w)) (inr (_, w′)) =
-        let l = ⊎-elim (λ l. l) (λ l. stay l (λ s. omega (arith, w′ .last s, w .come, longer a t))) (linear (leads-on (begins a t) h (w .way) (w .come)) (w′ .way)) in
-        (counts l, leads-le l)
+unique-given = L.unique-given table lawful
 
 -- ONE ANSWER AT MOST IS RIGHT
 pub unique-arrival : (a : List ℕ) (r s : Arrival) → Judged a r → Judged a s → r ≡ s

@@ -40,6 +40,7 @@ pub record Demand2 : Type 0 where
 -- c records of a are whole, the first of them the main header of 3,307 bytes; the last ends at byte e
 pub record Counted (a : List ℕ) (c e : ℕ) : Type 0 where
   pub main : 0 < c → size a 0 ≡ 3307
+  pub within : (k : ℕ) → k < c → start a k + size a (start a k) ≤ e
   pub end : start a c ≡ e
   pub come : e ≤ length a
 

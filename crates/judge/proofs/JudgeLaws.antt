@@ -1,26 +1,26 @@
 -- What the walk knows at a record, and what follows from it at each way out and at each turn. A fault that is shown is at the record or further on;
 -- one case split on where (`View`) shows that what is given goes before it. Assumes nothing.
-use Prim.Native.Nat.{ℕ, _+_, _≤_, _<_, zero-le}
-use native.Mathlib.Nat.{le-refl}
+use Prim.Native.Nat.{ℕ, _+_, _≤_, _<_}
 use native.Mathlib.Decide.{decLe}
 use native.Mathlib.Omega.{arith}
-use mathlib.Core.Path.{_≡_, refl, sym, _∙_, ap}
-use mathlib.Core.Bool.{Bool, true, false}
-use mathlib.Core.Logic.{_⊎_, inl, inr, ⊎-elim}
+use mathlib.Core.Path.{_≡_, refl, sym, ap}
+use mathlib.Core.Bool.{true, false}
+use mathlib.Core.Logic.{inr}
 use mathlib.Core.List.{List}
 use lib.ListN.{length, getD, length-set}
 use Rattle.record.specs.Header.{isClass}
 use Rattle.record.specs.Times.{timedAt}
-use Rattle.tables.specs.Table.{Row, fault}
+use Rattle.tables.specs.Table.{Row, fault, Before}
 use Rattle.tables.proofs.Laws.{given}
-use Rattle.mphr.specs.Table.{declared, total, Before, Fine}
+use Rattle.tables.proofs.Passing.{passes}
+use Rattle.mphr.specs.Table.{declared, total, Fine}
 use Rattle.mphr.specs.Table as M
 use Rattle.mphr.proofs.Export.{clean-whole, clean-fine, sized}
-use Rattle.judge.specs.Table.{Site, site, first, classAt, kindAt, sizeAt, aimAt, offsetAt, oneMore, Sound, Leads, here, on, next, Target, Pointer, Head, Unknown, Misplaced, Surplus, Wrong, part-left, unknown, misplaced, bad-size, bad-times, surplus, bad-target, points-inside, points-at-other, too-few, rowAt, Fault, main, at, too-long, row, number, place, shown, Clean, Gives, Given, Whole, Open}
-use Rattle.judge.specs.Step.{Six, Ranked, any, Points, FirstPointer, Quiet}
+use Rattle.judge.specs.Table.{Site, site, first, classAt, kindAt, sizeAt, aimAt, offsetAt, Sound, Leads, here, on, next, Target, Pointer, Head, Unknown, Misplaced, Surplus, Wrong, part-left, unknown, misplaced, bad-size, bad-times, surplus, bad-target, points-inside, points-at-other, too-few, rowAt, Fault, main, at, too-long, row, number, place, shown, Clean, Gives, Given, Open}
+use Rattle.judge.specs.Step.{Ranked, any, Points, FirstPointer, Quiet}
 use Rattle.judge.specs.Turning.{Onward, Past, Turn}
-use Rattle.judge.proofs.WayLaws.{leads-le, snoc, goes, linear, ends-by, holds, sound?, target?, facts}
-use Rattle.judge.proofs.RankLaws.{clash, no-class}
+use Rattle.judge.proofs.WayLaws.{leads-le, snoc, ends-by, holds, sound?, target?, facts}
+use Rattle.judge.proofs.RankLaws.{no-class}
 
 -- ---- the first record after the main header
 pub past-first : {a : List ℕ} → M.Clean a → 3307 ≤ length a → Past a first
@@ -318,11 +318,7 @@ module _ {a : List ℕ} {n i p : ℕ} {tl : List ℕ} (t : Turn a (site n i p tl
       passed b (too-long _) w = w
 
       known-class : isClass (classAt a i) ≡ true
-      known-class = go (isClass (classAt a i)) refl
-        where
-          go : (b : Bool) → isClass (classAt a i) ≡ b → isClass (classAt a i) ≡ true
-          go true d = d
-          go false d = absurd (f .known (no-class a i d))
+      known-class = passes (isClass (classAt a i)) (λ d. f .known (no-class a i d))
 
       pub turn-next : i + sizeAt a i ≤ length a → (classAt a i ≡ 3 → Target a i) → Turn a (next a x)
       turn-next l b = record {

@@ -1,24 +1,24 @@
 -- LOCALITY of the table: a fault that is shown at k depends on the first k bytes alone. Each row by its bytes, the way by induction; the main
 -- header's rows by mphr's law. Assumes nothing.
-use Prim.Native.Nat.{ℕ, _+_, _*_, _≤_, _<_}
+use Prim.Native.Nat.{ℕ, _+_, _≤_, _<_}
+use native.Mathlib.Nat.{le-refl}
 use native.Mathlib.Decide.{decLt}
 use native.Mathlib.Omega.{arith}
 use mathlib.Core.Path.{_≡_, refl, sym, _∙_, ap}
-use mathlib.Core.Bool.{true}
 use mathlib.Core.Logic.{_⊎_, inl, inr, ⊎-elim}
-use mathlib.Core.List.{List, _++_}
-use lib.ListN.{length, length-append, List·getD-append}
+use mathlib.Core.List.{List}
+use lib.ListN.{length}
 use Rattle.meter.specs.Integer.{beAt}
 use Rattle.record.proofs.TimesLaws.{timed-same}
 use Rattle.tables.specs.Table.{fault}
-use Rattle.tables.specs.Same.{Same, Local}
+use Rattle.tables.specs.Lawful.{Same, Lawful}
 use Rattle.tables.proofs.Laws.{same-back, shown-is}
 use Rattle.mphr.specs.Table.{declared, total}
 use Rattle.mphr.proofs.Prefix.{fine-on}
 use Rattle.mphr.proofs.Prefix as M
 use Rattle.mphr.proofs.Export.{sized}
 use Rattle.mphr.proofs.TurnLaws.{shown-most}
-use Rattle.judge.specs.Table.{Site, site, first, classAt, kindAt, sizeAt, aimClass, aimAt, offsetAt, Sound, Leads, here, on, Target, Pointer, Wrong, part-left, unknown, misplaced, bad-size, bad-times, surplus, bad-target, points-inside, points-at-other, too-few, rowAt, Fault, main, at, too-long, row, shown, table, Whole, Open}
+use Rattle.judge.specs.Table.{Site, first, classAt, kindAt, sizeAt, aimClass, aimAt, offsetAt, Sound, Leads, here, on, Target, Pointer, Wrong, part-left, unknown, misplaced, bad-size, bad-times, surplus, bad-target, points-inside, points-at-other, too-few, rowAt, Fault, main, at, too-long, row, shown, table, Whole, Open}
 use Rattle.judge.specs.Turning.{Onward, Turn}
 use Rattle.judge.proofs.RankLaws.{class-most}
 use Rattle.judge.proofs.WayLaws.{leads-le, counts, linear, ends-by, facts, goes, met}
@@ -112,8 +112,8 @@ local {a} {k = k} same (too-long d) h =
     let m : 3307 ≤ k = omega (arith, sized d) in
     (too-long (fine-on same m d), ap (λ (d : ℕ). fault 16 d (d + 1)) (declared-on same m))
 
-pub locality : Local table
-locality = record { alike = local }
+pub lawful : Lawful table
+lawful = record { alike = local; kept = λ r. refl; one = λ r s e. e }
 
 -- THE WALK'S PLACE STAYS: what the walk knows at x it knows in each arrival that has the same bytes up to x
 within : {a : List ℕ} {x : Site} (w : Wrong a x) → Sound a (x .at) → rowAt w .shown ≤ x .at + sizeAt a (x .at)
@@ -163,26 +163,28 @@ module _ {a b : List ℕ} {x : Site} (same : Same a b (x .at)) (come : x .at ≤
     past = past-on;
   }
 
--- ONE COUNT AND END AT MOST ARE RIGHT
+-- WHAT IS WHOLE STAYS
 -- what leads no further than the record at x is x
-pub stay : {a : List ℕ} {x y : Site} → Leads a x y → (Sound a (x .at) → y .at < x .at + sizeAt a (x .at)) → Leads a y x
+stay : {a : List ℕ} {x y : Site} → Leads a x y → (Sound a (x .at) → y .at < x .at + sizeAt a (x .at)) → Leads a y x
 stay here h = here
 stay (on s l) h = absurd (omega (arith, h s, leads-le l))
 
 abbrev pub OpenAt : List ℕ → ℕ → ℕ → Type 0
 OpenAt a c e = ((length a < 3307) × (c ≡ 0) × (e ≡ 0)) ⊎ ((3307 ≤ length a) × Whole a c e)
 
-same-count : {a : List ℕ} {x y : Site} → Leads a x y → Leads a y x → x .count ≡ y .count
-same-count l m = omega (arith, counts l, counts m)
-
-pub unique-open : {a : List ℕ} {c e c′ e′ : ℕ} → Open a c e → Open a c′ e′ → (c ≡ c′) × (e ≡ e′)
-unique-open {a} {c} {e} {c′} {e′} o o′ = go (o .whole) (o′ .whole)
+-- no fewer records are whole in an arrival that begins with another, and they end no earlier
+pub no-fewer : {a b : List ℕ} {c e c′ e′ : ℕ} → Same a b (length a) → length a ≤ length b → Open a c e → Open b c′ e′ → (c ≤ c′) × (e ≤ e′)
+no-fewer {a} {b} {c} {e} {c′} {e′} same long o o′ = go (o .whole) (o′ .whole)
   where
-    go : OpenAt a c e → OpenAt a c′ e′ → (c ≡ c′) × (e ≡ e′)
-    go (inl z) (inl z′) = omega arith
-    go (inl z) (inr w) = absurd (omega arith)
+    go : OpenAt a c e → OpenAt b c′ e′ → (c ≤ c′) × (e ≤ e′)
+    go (inl z) _ = omega arith
     go (inr w) (inl z) = absurd (omega arith)
-    go (inr (h, w)) (inr (h′, w′)) =
-        let l = ⊎-elim (λ l. l) (λ l. stay l (λ s. omega (arith, w′ .last s, w .come))) (linear (w .way) (w′ .way)) in
-        let m = ⊎-elim (λ l. l) (λ l. stay l (λ s. omega (arith, w .last s, w′ .come))) (linear (w′ .way) (w .way)) in
-        (same-count l m, omega (arith, leads-le l, leads-le m))
+    go (inr (h, w)) (inr (_, w′)) =
+        let l = ⊎-elim (λ l. l) (λ l. stay l (λ s. omega (arith, w′ .last s, w .come))) (linear (leads-on same h (w .way) (w .come)) (w′ .way)) in
+        (counts l, leads-le l)
+
+-- one count and end at most are right
+pub unique-open : {a : List ℕ} {c e c′ e′ : ℕ} → Open a c e → Open a c′ e′ → (c ≡ c′) × (e ≡ e′)
+unique-open {a} o q =
+    let s : Same a a (length a) = record { byte = λ j h. refl } in
+    omega (arith, no-fewer s (le-refl (length a)) o q, no-fewer s (le-refl (length a)) q o)

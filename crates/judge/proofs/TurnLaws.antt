@@ -3,19 +3,19 @@ use Prim.Native.Nat.{ℕ, _+_, _≤_, _<_}
 use native.Mathlib.Nat.{le-refl}
 use native.Mathlib.Decide.{decLt, ℕ-discrete}
 use native.Mathlib.Omega.{arith}
-use mathlib.Core.Path.{_≡_, refl, sym, _∙_, ap, subst}
+use mathlib.Core.Path.{_≡_, refl, sym, ap, subst}
 use mathlib.Core.Bool.{true}
 use mathlib.Core.Logic.{inl}
 use mathlib.Core.List.{List}
 use lib.ListN.{length, getD}
-use Rattle.tables.specs.Table.{Row}
-use Rattle.tables.proofs.Laws.{given, shown-is}
-use Rattle.mphr.specs.Table.{declared, total, Before}
+use Rattle.tables.specs.Table.{Row, Before}
+use Rattle.tables.proofs.Laws.{given, given-at, shown-is}
+use Rattle.mphr.specs.Table.{declared, total}
 use Rattle.mphr.specs.Table as M
 use Rattle.mphr.proofs.Export.{fine-early, sized}
 use Rattle.record.specs.Header.{isClass}
-use Rattle.judge.specs.Table.{Site, site, first, here, classAt, kindAt, sizeAt, oneMore, Sound, Fault, main, at, too-long, row, shown, Clean, Gives, Given, Open, Judged}
-use Rattle.judge.specs.Step.{Ranked, Ranking, any, Points, Quiet, Kept, Settling, InsideIs, OtherIs, ClearIs, SixIs, BadTargetIs, EntireIs, Bodied, noPointers}
+use Rattle.judge.specs.Table.{Site, site, first, here, classAt, sizeAt, oneMore, Sound, Fault, main, at, too-long, row, shown, Clean, Gives, Given, Open, Judged}
+use Rattle.judge.specs.Step.{Ranked, Ranking, Points, Quiet, Kept, Settling, InsideIs, OtherIs, ClearIs, SixIs, BadTargetIs, EntireIs, Bodied, noPointers}
 use Rattle.judge.specs.Turning.{Totals, Turn, Ready, Gone, refusedAt, Over, Fewer}
 use Rattle.judge.specs.declared.pointers.Pointers.{Pointers}
 use Rattle.judge.specs.declared.arrival.Arrival.{Arrival}
@@ -27,9 +27,6 @@ use Rattle.judge.proofs.JudgeLaws.{Plain, wait-head, sounds, refuse-6-h
 -- a refusal that is given, as the answer
 pub said : (a : List ℕ) {r : Arrival} {n p : ℕ} → r ≡ refusedAt n p → Given a n p → Judged a r
 said a e g = subst (Judged a) (sym e) g
-
-given-at : {a : List ℕ} {n p p′ : ℕ} → p ≡ p′ → Given a n p → Given a n p′
-given-at e g = rw e at g
 
 module _ {a ts : List ℕ} {d n i p : ℕ} {tl : List ℕ} {w : Pointers} (y : Ready a d (site n i p tl) ts w) where
   pub room : i + 20 ≤ declared a

@@ -165,7 +165,7 @@ shown f = row f .shown
 
 -- what is given of them, by the rule of every table: numbers go in their own order
 abbrev pub table : Table
-table = record { Fault = Fault; row = row; order = λ n. n }
+table = record { Fault = Fault; row = row; order = λ r. r }
 
 -- no fault is shown
 abbrev pub Clean : List ℕ → Type 0

@@ -1,29 +1,27 @@
 -- THE PREFIX LAW of the main header: a fault that is shown at k depends on the first k bytes alone, so a refusal stays for every longer
 -- arrival; and one answer at most is right. Each test looks only at bytes of its line. Assumes nothing.
 use mathlib.Core.Path.{_≡_, refl, sym, ap, _∙_}
-use mathlib.Core.Bool.{Bool, true, false}
-use mathlib.Core.Logic.{_⊎_, inl, inr, ⊎-elim}
-use mathlib.Core.List.{List, _++_}
+use mathlib.Core.Logic.{inl, inr, ⊎-elim}
+use mathlib.Core.List.{List}
 use Prim.Native.Nat.{ℕ, zero, suc, _+_, _*_, _≤_, _<_}
 use native.Mathlib.Omega.{arith}
 use lib.Dec.{eqb}
 use lib.ListN.{getD}
 use Rattle.calendar.specs.Said.{refusing}
 use Rattle.calendar.specs.declared.Refusal.{Refusal}
-use Rattle.meter.specs.General.{lead}
 use Rattle.meter.specs.Integer.{beAt}
 use Rattle.meter.proofs.IntegerLaws.{beAt-same}
 use Rattle.record.proofs.TimesLaws.{timed-same as timed-at-same}
 use Rattle.text.proofs.Alike.{lead-cong}
-use Rattle.tables.specs.Same.{Same, Local}
+use Rattle.tables.specs.Lawful.{Same, Lawful}
 use Rattle.tables.proofs.Laws.{same-back, number-is, not-clean}
 use Rattle.tables.proofs.Laws as L
 use Rattle.text.proofs.Same.{number-same, value-same}
 use Rattle.mphr.specs.Layout.{names, widthOf, kindOf, lineStart}
-use Rattle.mphr.specs.Table.{headed, timed, named, framed, valued, declared, total, sum, Sums, WrongLine, bad-frame, bad-value, Fault, bad-header, bad-line, bad-size, bad-totals, bad-times, row, number, shown, table, Given, Clean, Fine, FirstIs}
+use Rattle.mphr.specs.Table.{headed, timed, named, framed, valued, declared, total, sum, Sums, bad-frame, bad-value, Fault, bad-header, bad-line, bad-size, bad-totals, bad-times, row, number, shown, table, Clean, Fine, FirstIs}
 use Rattle.mphr.specs.declared.faults.HeaderFault.{HeaderFault}
 use Rattle.mphr.specs.declared.faults.HeaderFault.the-variants as F
-use Rattle.mphr.proofs.LayoutLaws.{start-next, total-start, start-mono, start-64, start-29}
+use Rattle.mphr.proofs.LayoutLaws.{start-next, start-mono, start-64, start-29}
 use Rattle.mphr.proofs.TurnLaws.{shown-most}
 
 module _ (a b : List ℕ) (k : ℕ) (same : Same a b k) where
@@ -85,15 +83,9 @@ local {a} {b} {k} same (bad-totals v d) h = (
 )
 local {a} {b} {k} same (bad-times e) h = (bad-times (sym (timed-same a b k same h) ∙ e), refl)
 
-pub locality : Local table
-locality = record { alike = local }
-
--- what holds of every table, of this one
-pub stays-refused : (a t : List ℕ) {n p : ℕ} → Given a n p → Given (a ++ t) n p
-stays-refused = L.stays-refused table locality
-
-pub stays-clean : (a t : List ℕ) → Clean (a ++ t) → Clean a
-stays-clean = L.stays-clean table locality
+-- so what holds of every table (`tables`, proofs/Laws.antt) holds of this one: a refusal stays for every longer arrival
+pub lawful : Lawful table
+lawful = record { alike = local; kept = λ r. refl; one = λ r s e. e }
 
 -- one answer at most is right
 pub same-refusal : (x y : Refusal) → x .number ≡ y .number → x .place ≡ y .place → x ≡ y
@@ -103,7 +95,7 @@ pub unique-header-fault : (a : List ℕ) (r s : HeaderFault) → FirstIs a r →
 unique-header-fault a F.Clean F.Clean h k = refl
 unique-header-fault a F.Clean (F.Refused x) h k = absurd (not-clean k h)
 unique-header-fault a (F.Refused x) F.Clean h k = absurd (not-clean h k)
-unique-header-fault a (F.Refused x) (F.Refused y) h k = let u = L.unique-given table (λ _ _ e. e) h k in ap F.Refused (same-refusal x y (u .0) (u .1))
+unique-header-fault a (F.Refused x) (F.Refused y) h k = let u = L.unique-given table lawful h k in ap F.Refused (same-refusal x y (u .0) (u .1))
 
 -- EXPORTED: a header that is fine stays so
 pub fine-on : {a b : List ℕ} {k : ℕ} → Same a b k → 3307 ≤ k → Fine a → Fine b

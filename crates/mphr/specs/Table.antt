@@ -92,10 +92,7 @@ shown f = row f .shown
 
 -- THE RULE, and what is given by it: numbers go in their own order
 abbrev pub table : Table
-table = record { Fault = Fault; row = row; order = λ n. n }
-
-abbrev pub Before : Row → Row → Type 0
-Before f g = T.Before (λ n. n) f g
+table = record { Fault = Fault; row = row; order = λ r. r }
 
 abbrev pub Gives : List ℕ → Row → Type 0
 Gives a r = T.Gives table a r

@@ -8,7 +8,7 @@ use mathlib.Core.Logic.{inl, inr, ⊎-elim}
 use mathlib.Core.List.{List}
 use Rattle.record.specs.Header.{headerAt}
 use Rattle.record.specs.declared.header.Header.{Header}
-use Rattle.judge.specs.Table.{Site, Leads, here, on, Clean, Given, Open}
+use Rattle.judge.specs.Table.{Site, Leads, here, on, Open}
 use Rattle.judge.specs.declared.arrival.Arrival.the-variants.{Waiting}
 use Rattle.query.specs.Query as Q
 use Rattle.query.specs.Query.{StartOf, RecordFound, NoRecord, not-yet, RecordIs, Denied, short, no-field, Allowed, texts, FieldIs, NumberIs, TimeIs, PointIs}

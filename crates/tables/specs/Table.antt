@@ -14,16 +14,16 @@ pub record Row : Type 0 where
 abbrev pub fault : ℕ → ℕ → ℕ → Row
 fault n p k = record { number = n; place = p; shown = k }
 
--- a table: the faults of an arrival, the row of each, and where a number stands in number order
+-- a table: the faults of an arrival; the row of each; and a row as it is compared, with the place of its number in number order for the number
 pub record Table : Type 1 where
   pub Fault : List ℕ → Type 0
   pub row : {a : List ℕ} → Fault a → Row
-  pub order : ℕ → ℕ
+  pub order : Row → Row
 
 -- THE RULE, "the one shown earliest is given, then the lowest number, then the lowest place": f goes before g, or is as good
-pub record Before (order : ℕ → ℕ) (f g : Row) : Type 0 where
+pub record Before (f g : Row) : Type 0 where
   pub sooner : f .shown ≤ g .shown
-  pub lower : f .shown ≡ g .shown → order (f .number) ≤ order (g .number)
+  pub lower : f .shown ≡ g .shown → f .number ≤ g .number
   pub nearer : f .shown ≡ g .shown → f .number ≡ g .number → f .place ≤ g .place
 
 -- no fault is shown
@@ -35,7 +35,7 @@ pub record Gives (T : Table) (a : List ℕ) (r : Row) : Type 0 where
   pub fault : T .Fault a
   pub is : T .row fault ≡ r
   pub seen : r .shown ≤ length a
-  pub best : (g : T .Fault a) → T .row g .shown ≤ length a → Before (T .order) r (T .row g)
+  pub best : (g : T .Fault a) → T .row g .shown ≤ length a → Before (T .order r) (T .order (T .row g))
 
 -- the refusal (n, p) is given, and where it is shown
 pub record Given (T : Table) (a : List ℕ) (n p : ℕ) : Type 0 where

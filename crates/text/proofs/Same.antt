@@ -1,11 +1,10 @@
 -- Locality: the value of a field that ends by byte k is a matter of the first k bytes. The field of the one arrival and of the other are
 -- alike. Assumes nothing.
 use mathlib.Core.Path.{_≡_}
-use mathlib.Core.Bool.{Bool}
 use mathlib.Core.List.{List}
-use Prim.Native.Nat.{ℕ, _+_, _≤_, _<_}
+use Prim.Native.Nat.{ℕ, _+_, _≤_}
 use native.Mathlib.Omega.{arith}
-use Rattle.tables.specs.Same.{Same}
+use Rattle.tables.specs.Lawful.{Same}
 use Rattle.meter.specs.General.{numberOf}
 use Rattle.text.specs.Field.{isValue}
 use Rattle.text.specs.declared.Kind.{Kind}

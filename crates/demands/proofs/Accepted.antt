@@ -5,7 +5,7 @@ use Prim.Native.Nat.{ℕ, suc, _+_, _≤_, _<_}
 use native.Mathlib.Decide.{decLe, decLt, ℕ-discrete}
 use native.Mathlib.Omega.{arith}
 use mathlib.Core.Path.{_≡_, refl, sym, _∙_, ap}
-use mathlib.Core.Bool.{Bool, true, false, true≢false, cond, _&&_}
+use mathlib.Core.Bool.{Bool, true, cond, _&&_}
 use mathlib.Core.Logic.{_⊎_, inl, inr, ⊎-elim}
 use mathlib.Core.List.{List, _∷_, List·Memᴰ as In, List·Memᴰ·head as top, List·Memᴰ·tail as pop, List·Memᴰ·not-nil as nil}
 use borrow.Author.Tests.{eq-eqb, ne-eqb}
@@ -32,18 +32,12 @@ use Rattle.finish.specs.declared.Finished.{Finished}
 use Rattle.finish.specs.declared.Finished.the-variants.{Accepted, Refused}
 use Rattle.judge.proofs.WayLaws.{leads-le, snoc, trans, linear, holds, target?}
 use Rattle.demands.proofs.Prefix.{unique-given}
+use Rattle.tables.proofs.Laws.{not-clean}
+use Rattle.tables.proofs.Passing.{passes, clash}
 use Rattle.mphr.proofs.Prefix.{same-refusal}
 use Rattle.judge.proofs.RankLaws.{class-most}
 use Rattle.demands.proofs.Accept.{no-main, not-wrong, complete-covered}
 use Rattle.judge.proofs.Covering.{complete-fine, whole-come}
-
--- a test that is not refused
-passes : (b : Bool) → (b ≡ false → ⊥) → b ≡ true
-passes true n = refl
-passes false n = absurd (n refl)
-
-clash : {b : Bool} → b ≡ true → b ≡ false → ⊥
-clash t f = true≢false (sym t ∙ f)
 
 -- ---- THE COUNT of each class
 
@@ -391,7 +385,7 @@ meets-accepted a ix ix′ m h (Accepted c) f =
 meets-accepted a ix ix′ m h (Refused r) (f, _) = absurd (go f)
   where
     go : {n p : ℕ} → Refuses a (length ix) n p → ⊥
-    go (faulty g) = meets-complete m .clean (g .fault) (g .seen)
+    go (faulty g) = not-clean g (meets-complete m .clean)
     go (short _ s) = ⊎-elim (λ z. omega (arith, m .header .least, m .come)) (λ z. omega (arith, m .come)) s
     go (no-room _ v l) = omega (arith, covers m v .0)
 
@@ -420,22 +414,22 @@ unique-finished a ix (Refused r) (Refused s) x y (f, e) (g, d) = let u = go f g 
   where
     go : {n p n′ p′ : ℕ} → Refuses a (length ix) n p → Refuses a (length ix) n′ p′ → (n ≡ n′) × (p ≡ p′)
     go (faulty g) (faulty h) = unique-given g h
-    go (faulty g) (short c s) = absurd (c (g .fault) (g .seen))
-    go (faulty g) (no-room k v l) = absurd (k .clean (g .fault) (g .seen))
-    go (short c s) (faulty g) = absurd (c (g .fault) (g .seen))
+    go (faulty g) (short c s) = absurd (not-clean g c)
+    go (faulty g) (no-room k v l) = absurd (not-clean g (k .clean))
+    go (short c s) (faulty g) = absurd (not-clean g c)
     go (short c s) (short c′ s′) = (refl, refl)
     go (short c s) (no-room k v l) = absurd (⊎-elim (λ z. omega (arith, k .header)) (λ z. omega (arith, k .come)) s)
-    go (no-room k v l) (faulty g) = absurd (k .clean (g .fault) (g .seen))
+    go (no-room k v l) (faulty g) = absurd (not-clean g (k .clean))
     go (no-room k v l) (short c s) = absurd (⊎-elim (λ z. omega (arith, k .header)) (λ z. omega (arith, k .come)) s)
     go (no-room k v l) (no-room k′ v′ l′) = (refl, omega (arith, v .counted, v′ .counted, same-way (v .way) (v′ .way) (v .ends ∙ sym (v′ .ends)) .1))
 
 pub unique-extent : (a : List ℕ) (r s : Extent) → ExtentIs a r → ExtentIs a s → r ≡ s
 unique-extent a X.Part X.Part f g = refl
 unique-extent a X.Part (X.Entire c) f (k, v) = absurd (⊎-elim (λ z. omega (arith, k .header)) (λ z. omega (arith, k .come)) (f .1))
-unique-extent a X.Part (X.Refused s) f g = absurd (f .0 (g .fault) (g .seen))
+unique-extent a X.Part (X.Refused s) f g = absurd (not-clean g (f .0))
 unique-extent a (X.Entire c) X.Part (k, v) g = absurd (⊎-elim (λ z. omega (arith, k .header)) (λ z. omega (arith, k .come)) (g .1))
 unique-extent a (X.Entire c) (X.Entire d) (k, v) (l, w) = ap X.Entire (omega (arith, v .counted, w .counted, same-way (v .way) (w .way) (v .ends ∙ sym (w .ends)) .1))
-unique-extent a (X.Entire c) (X.Refused s) (k, v) g = absurd (k .clean (g .fault) (g .seen))
-unique-extent a (X.Refused r) X.Part f g = absurd (g .0 (f .fault) (f .seen))
-unique-extent a (X.Refused r) (X.Entire d) f (l, w) = absurd (l .clean (f .fault) (f .seen))
+unique-extent a (X.Entire c) (X.Refused s) (k, v) g = absurd (not-clean g (k .clean))
+unique-extent a (X.Refused r) X.Part f g = absurd (not-clean f (g .0))
+unique-extent a (X.Refused r) (X.Entire d) f (l, w) = absurd (not-clean f (l .clean))
 unique-extent a (X.Refused r) (X.Refused s) f g = let u = unique-given f g in ap X.Refused (same-refusal r s (u .0) (u .1))

@@ -1,2 +1,3 @@
 pub mod Product
+pub mod Demands
 pub mod Marked

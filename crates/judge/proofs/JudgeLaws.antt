@@ -1,24 +1,26 @@
 -- What the walk knows at a record, and what follows from it at each way out and at each turn. A fault that is shown is at the record or further on;
 -- one case split on where (`View`) shows that what is given goes before it. Assumes nothing.
-use Prim.Native.Nat.{ℕ, _+_, _≤_, _<_, zero-le}
-use native.Mathlib.Nat.{le-refl}
+use Prim.Native.Nat.{ℕ, _+_, _≤_, _<_}
 use native.Mathlib.Decide.{decLe}
 use native.Mathlib.Omega.{arith}
-use mathlib.Core.Path.{_≡_, refl, sym, _∙_, ap}
-use mathlib.Core.Bool.{Bool, true, false}
-use mathlib.Core.Logic.{_⊎_, inl, inr, ⊎-elim}
+use mathlib.Core.Path.{_≡_, refl, sym, ap}
+use mathlib.Core.Bool.{true, false}
+use mathlib.Core.Logic.{inr}
 use mathlib.Core.List.{List}
 use lib.ListN.{length, getD, length-set}
 use Rattle.record.specs.Header.{isClass}
 use Rattle.record.specs.Times.{timedAt}
-use Rattle.mphr.specs.Table.{declared, total, Row, fault, Before, Fine}
+use Rattle.tables.specs.Table.{Row, fault, Before}
+use Rattle.tables.proofs.Laws.{given}
+use Rattle.tables.proofs.Passing.{passes}
+use Rattle.mphr.specs.Table.{declared, total, Fine}
 use Rattle.mphr.specs.Table as M
 use Rattle.mphr.proofs.Export.{clean-whole, clean-fine, sized}
-use Rattle.judge.specs.Table.{Site, site, first, classAt, kindAt, sizeAt, aimAt, offsetAt, oneMore, Sound, Leads, here, on, next, Target, Pointer, Head, Unknown, Misplaced, Surplus, Wrong, part-left, unknown, misplaced, bad-size, bad-times, surplus, bad-target, points-inside, points-at-other, too-few, rowAt, Fault, main, at, too-long, row, number, place, shown, Clean, Given, Whole, Open}
-use Rattle.judge.specs.Step.{Six, Ranked, any, Points, FirstPointer, Quiet}
+use Rattle.judge.specs.Table.{Site, site, first, classAt, kindAt, sizeAt, aimAt, offsetAt, Sound, Leads, here, on, next, Target, Pointer, Head, Unknown, Misplaced, Surplus, Wrong, part-left, unknown, misplaced, bad-size, bad-times, surplus, bad-target, points-inside, points-at-other, too-few, rowAt, Fault, main, at, too-long, row, number, place, shown, Clean, Gives, Given, Open}
+use Rattle.judge.specs.Step.{Ranked, any, Points, FirstPointer, Quiet}
 use Rattle.judge.specs.Turning.{Onward, Past, Turn}
-use Rattle.judge.proofs.WayLaws.{leads-le, snoc, goes, linear, ends-by, holds, sound?, target?, facts}
-use Rattle.judge.proofs.RankLaws.{clash, no-class}
+use Rattle.judge.proofs.WayLaws.{leads-le, snoc, ends-by, holds, sound?, target?, facts}
+use Rattle.judge.proofs.RankLaws.{no-class}
 
 -- ---- the first record after the main header
 pub past-first : {a : List ℕ} → M.Clean a → 3307 ≤ length a → Past a first
@@ -75,19 +77,16 @@ shows (at f x l w) = let g = facts w in record { on-six = g .on-six; near = g .n
 shows (too-long f) = omega arith
 
 -- 6 at the first record
-unfoldable pub refuse-6-first : {a : List ℕ} → M.Clean a → 3307 ≤ length a → 3307 < declared a → declared a < 3327 → Given a 6 3307
-refuse-6-first {a} c h m p = record {
-  fault = at (clean-fine h c) first here (part-left m p);
-  numbered = refl;
-  placed = refl;
-  seen = h;
-  best = λ g s. go g (past-first c h g s);
-}
+pub gives-6-first : {a : List ℕ} → M.Clean a → 3307 ≤ length a → 3307 < declared a → declared a < 3327 → Gives a (fault 6 3307 3307)
+gives-6-first {a} c h m p = record { fault = at (clean-fine h c) first here (part-left m p); is = refl; seen = h; best = λ g s. go g (past-first c h g s) }
   where
     go : (g : Fault a) → Onward first g → Before (fault 6 3307 3307) (row g)
     go (main g) w = absurd w
     go (at f y l w) _ = let k = facts w in record { sooner = omega (arith, leads-le l, k .from); lower = λ _. k .six; nearer = λ e n. omega (arith, k .on-six (sym n)) }
     go (too-long f) _ = record { sooner = omega arith; lower = λ _. omega arith; nearer = λ _ n. absurd (omega arith) }
+
+pub refuse-6-first : {a : List ℕ} → M.Clean a → 3307 ≤ length a → 3307 < declared a → declared a < 3327 → Given a 6 3307
+refuse-6-first c h m p = given (gives-6-first c h m p)
 
 -- a pointer, as it is looked for
 points : {a : List ℕ} {q : Site} {i lo hi k : ℕ} → Pointer a q → q .at < i → lo ≤ offsetAt a (q .at) → offsetAt a (q .at) < hi → (k < any → aimAt a (q .at) ≡ k → ⊥) → Points a i lo hi k q
@@ -134,11 +133,10 @@ module _ {a : List ℕ} {n i p : ℕ} {tl : List ℕ} (t : Turn a (site n i p tl
   abbrev pub x : Site
   x = site n i p tl
 
-  unfoldable pub give : {m q : ℕ} (f : Fault a) → number f ≡ m → place f ≡ q → shown f ≤ length a → ((g : Fault a) → View a x g → Beats (row f) g) → Given a m q
-  give f en ep s b = record {
+  give : {r : Row} (f : Fault a) → row f ≡ r → r .shown ≤ length a → ((g : Fault a) → View a x g → Beats r g) → Gives a r
+  give f e s b = record {
     fault = f;
-    numbered = en;
-    placed = ep;
+    is = e;
     seen = s;
     best = λ g h.
         let w = b g (view g (t .past g h)) in
@@ -183,29 +181,31 @@ module _ {a : List ℕ} {n i p : ℕ} {tl : List ℕ} (t : Turn a (site n i p tl
     floor (later s l e) f = omega (arith, k .high, e (omega (arith, s .least)))
     floor end f = absurd (omega arith)
 
-    unfoldable pub refuse-6-head : v ≡ 6 → i + 20 ≤ length a → Given a 6 (i + 20)
+    pub refuse-6-head : v ≡ 6 → i + 20 ≤ length a → Gives a (fault 6 (i + 20) (i + 20))
     refuse-6-head e l =
         let z = k .is-six e in
         let s : Sound a i = record { room = r; least = omega (arith, z .short); most = omega (arith, z .short, z .more); ipr = λ o. absurd (z .other o) } in
-        give (at (t .fine) (next a x) (snoc (t .way) s) (part-left (omega (arith, z .short, z .more)) (omega (arith, z .short, z .part)))) refl (omega (arith, z .short)) (omega (arith, z .short))
-        (λ g w. (omega (arith, soonest w, z .short), λ d. (omega (arith, floor w (omega (arith, z .short))), λ m. omega (arith, shows g .on-six m))))
+        give (at (t .fine) (next a x) (snoc (t .way) s) (part-left (omega (arith, z .short, z .more)) (omega (arith, z .short, z .part)))) (ap (λ (j : ℕ). fault 6 (i + j) (i + j)) (z .short)) l
+        (λ g w. (soonest w, λ d. (omega (arith, floor w d), λ m. omega (arith, shows g .on-six m))))
 
     -- what the rank is the number of
-    pub ranked : 6 < v → v < 12 → (w : Wrong a x) × (rowAt w .number ≡ v) × (rowAt w .place ≡ i) × (rowAt w .shown ≡ i + 20)
+    ranked : 6 < v → v < 12 → (w : Wrong a x) × (rowAt w ≡ fault v i (i + 20))
     ranked l u = go (decLe v 7) (decLe v 8) (decLe v 9) (decLe v 10)
       where
-        go : Dec (v ≤ 7) → Dec (v ≤ 8) → Dec (v ≤ 9) → Dec (v ≤ 10) → (w : Wrong a x) × (rowAt w .number ≡ v) × (rowAt w .place ≡ i) × (rowAt w .shown ≡ i + 20)
-        go (yes h) _ _ _ = (unknown r (k .is-seven (omega arith)), omega arith, refl, refl)
-        go (no h) (yes j) _ _ = (misplaced r (k .is-eight (omega arith)), omega arith, refl, refl)
-        go (no h) (no j) (yes m) _ = (bad-size r (k .is-nine (omega arith)), omega arith, refl, refl)
-        go (no h) (no j) (no m) (yes q) = (bad-times r (k .is-ten (omega arith)), omega arith, refl, refl)
-        go (no h) (no j) (no m) (no q) = (surplus r (k .is-eleven (omega arith)), omega arith, refl, refl)
+        numbered : {m : ℕ} → m ≡ v → fault m i (i + 20) ≡ fault v i (i + 20)
+        numbered e = ap (λ (m : ℕ). fault m i (i + 20)) e
 
-    unfoldable pub refuse-head : 6 < v → v < 12 → i + 20 ≤ length a → Given a v i
+        go : Dec (v ≤ 7) → Dec (v ≤ 8) → Dec (v ≤ 9) → Dec (v ≤ 10) → (w : Wrong a x) × (rowAt w ≡ fault v i (i + 20))
+        go (yes h) _ _ _ = (unknown r (k .is-seven (omega arith)), numbered (omega arith))
+        go (no h) (yes j) _ _ = (misplaced r (k .is-eight (omega arith)), numbered (omega arith))
+        go (no h) (no j) (yes m) _ = (bad-size r (k .is-nine (omega arith)), numbered (omega arith))
+        go (no h) (no j) (no m) (yes q) = (bad-times r (k .is-ten (omega arith)), numbered (omega arith))
+        go (no h) (no j) (no m) (no q) = (surplus r (k .is-eleven (omega arith)), numbered (omega arith))
+
+    pub refuse-head : 6 < v → v < 12 → i + 20 ≤ length a → Gives a (fault v i (i + 20))
     refuse-head l u s =
         let f = ranked l u in
-        give (at (t .fine) x (t .way) (f .0)) (f .1) (f .2) (omega (arith, f .3))
-        (λ g w. (omega (arith, f .3, soonest w), λ d. (omega (arith, f .1, floor w (omega (arith, f .3))), λ m. omega (arith, f .2, f .3, shows g .near (omega (arith, f .1)) (omega (arith, f .1))))))
+        give (at (t .fine) x (t .way) (f .0)) (f .1) s (λ g w. (soonest w, λ d. (floor w d, λ m. omega (arith, shows g .near (omega arith) (omega arith)))))
 
     -- a pointer that was looked for has no fault: a fault of its own would have been shown
     pub pointer-of : {lo hi j : ℕ} {q : Site} → Points a i lo hi j q → Pointer a q
@@ -236,11 +236,11 @@ module _ {a : List ℕ} {n i p : ℕ} {tl : List ℕ} (t : Turn a (site n i p tl
       at-13 g (later s l e) f = let m = e (omega (arith, s .least)) in (omega arith, λ d. absurd (omega arith))
       at-13 g end f = absurd (omega arith)
 
-      unfoldable pub refuse-13 : (u ≡ 0 → ⊥) → i + 20 ≤ length a → Given a 13 u
+      pub refuse-13 : (u ≡ 0 → ⊥) → i + 20 ≤ length a → Gives a (fault 13 u (i + 20))
       refuse-13 h s =
           let w = in-it .some h in
-          give (at (t .fine) x (t .way) (points-inside (w .0) (pointer-of (w .2)) r (w .2 .before) (omega (arith, w .2 .above)) (w .2 .below))) refl (w .1) s
-          (λ g y. (soonest y, λ e. (at-13 g y e .0, λ d. omega (arith, w .1, at-13 g y e .1 d))))
+          give (at (t .fine) x (t .way) (points-inside (w .0) (pointer-of (w .2)) r (w .2 .before) (omega (arith, w .2 .above)) (w .2 .below)))
+          (ap (λ (j : ℕ). fault 13 j (i + 20)) (w .1)) s (λ g y. (soonest y, at-13 g y))
 
       module _ (none : u ≡ 0) {u′ : ℕ} (at-it : FirstPointer a i i (i + 1) (kindAt a i) u′) where
         own-14 : (w : Wrong a x) → rowAt w .shown ≡ i + 20 → (14 ≤ rowAt w .number) × (rowAt w .number ≡ 14 → u′ ≤ rowAt w .place)
@@ -261,11 +261,11 @@ module _ {a : List ℕ} {n i p : ℕ} {tl : List ℕ} (t : Turn a (site n i p tl
         at-14 g (later s l e) f = let m = e (omega (arith, s .least)) in (omega arith, λ d. absurd (omega arith))
         at-14 g end f = absurd (omega arith)
 
-        unfoldable pub refuse-14 : (u′ ≡ 0 → ⊥) → kindAt a i < any → i + 20 ≤ length a → Given a 14 u′
+        pub refuse-14 : (u′ ≡ 0 → ⊥) → kindAt a i < any → i + 20 ≤ length a → Gives a (fault 14 u′ (i + 20))
         refuse-14 h small s =
             let w = at-it .some h in
-            give (at (t .fine) x (t .way) (points-at-other (w .0) (pointer-of (w .2)) r (w .2 .before) (omega (arith, w .2 .above, w .2 .below)) (w .2 .unlike small))) refl (w .1) s
-            (λ g y. (soonest y, λ e. (at-14 g y e .0, λ d. omega (arith, w .1, at-14 g y e .1 d))))
+            give (at (t .fine) x (t .way) (points-at-other (w .0) (pointer-of (w .2)) r (w .2 .before) (omega (arith, w .2 .above, w .2 .below)) (w .2 .unlike small)))
+            (ap (λ (j : ℕ). fault 14 j (i + 20)) (w .1)) s (λ g y. (soonest y, at-14 g y))
 
     pub plain : 11 < v → Quiet a i (i + 1) (i + sizeAt a i) any → Quiet a i i (i + 1) (kindAt a i) → Plain a x
     plain high q o = record {
@@ -297,8 +297,8 @@ module _ {a : List ℕ} {n i p : ℕ} {tl : List ℕ} (t : Turn a (site n i p tl
     at-6 l g (later s h e) = (h, λ d. (omega (arith, e d), λ b. absurd (omega (arith, e d))))
     at-6 l g end = omega arith
 
-    unfoldable pub refuse-6 : i + sizeAt a i < declared a → declared a < i + sizeAt a i + 20 → i + sizeAt a i ≤ length a → Given a 6 (i + sizeAt a i)
-    refuse-6 m q l = give (at (t .fine) (next a x) (snoc (t .way) (f .sound)) (part-left m q)) refl refl l (at-6 m)
+    pub refuse-6 : i + sizeAt a i < declared a → declared a < i + sizeAt a i + 20 → i + sizeAt a i ≤ length a → Gives a (fault 6 (i + sizeAt a i) (i + sizeAt a i))
+    refuse-6 m q l = give (at (t .fine) (next a x) (snoc (t .way) (f .sound)) (part-left m q)) refl l (at-6 m)
 
     module _ (e : i + sizeAt a i < declared a → i + sizeAt a i + 20 ≤ declared a) where
       pub at-12 : classAt a i ≡ 3 → (g : Fault a) → View a x g → Beats (fault 12 i (i + 27)) g
@@ -307,8 +307,8 @@ module _ {a : List ℕ} {n i p : ℕ} {tl : List ℕ} (t : Turn a (site n i p tl
       at-12 o g (later s h d) = let z = f .sound .ipr o in (omega arith, λ b. let m = d (omega arith) in (omega arith, λ c. absurd (omega arith)))
       at-12 o g end = omega (arith, f .sound .ipr o, f .sound .most)
 
-      unfoldable pub refuse-12 : classAt a i ≡ 3 → (Target a i → ⊥) → i + 27 ≤ length a → Given a 12 i
-      refuse-12 o c l = give (at (t .fine) x (t .way) (bad-target (f .sound) o c)) refl refl l (at-12 o)
+      pub refuse-12 : classAt a i ≡ 3 → (Target a i → ⊥) → i + 27 ≤ length a → Gives a (fault 12 i (i + 27))
+      refuse-12 o c l = give (at (t .fine) x (t .way) (bad-target (f .sound) o c)) refl l (at-12 o)
 
       -- all that is shown is further on
       passed : (classAt a i ≡ 3 → Target a i) → (g : Fault a) → Onward x g → Onward (next a x) g
@@ -318,11 +318,7 @@ module _ {a : List ℕ} {n i p : ℕ} {tl : List ℕ} (t : Turn a (site n i p tl
       passed b (too-long _) w = w
 
       known-class : isClass (classAt a i) ≡ true
-      known-class = go (isClass (classAt a i)) refl
-        where
-          go : (b : Bool) → isClass (classAt a i) ≡ b → isClass (classAt a i) ≡ true
-          go true d = d
-          go false d = absurd (f .known (no-class a i d))
+      known-class = passes (isClass (classAt a i)) (λ d. f .known (no-class a i d))
 
       pub turn-next : i + sizeAt a i ≤ length a → (classAt a i ≡ 3 → Target a i) → Turn a (next a x)
       turn-next l b = record {
@@ -389,21 +385,19 @@ module _ {a : List ℕ} {n i p : ℕ} {tl : List ℕ} (t : Turn a (site n i p tl
   ends (at f y l w) h = let k = ends-at (stays h w) l w in record { sooner = k .sooner; fifteen = k .fifteen; nearer = k .nearer; over = k .over }
   ends (too-long f) h = record { sooner = omega arith; fifteen = omega arith; nearer = λ e. absurd (omega arith); over = λ _. (refl, refl, refl) }
 
-  pub refuse-15 : Few a tl → Given a 15 i
+  pub refuse-15 : Few a tl → Gives a (fault 15 i i)
   refuse-15 f = record {
     fault = at (t .fine) z (t .way) (too-few d (f .class) (f .one) (f .eight) (f .less));
-    numbered = refl;
-    placed = refl;
+    is = refl;
     seen = t .come;
     best = λ g h. let k = ends g (t .past g h) in record { sooner = k .sooner; lower = λ _. k .fifteen; nearer = λ _ e. omega (arith, k .nearer (sym e)) };
   }
 
   module _ (none : Few a tl → ⊥) where
-    pub refuse-16 : declared a < length a → Given a 16 (declared a)
+    pub refuse-16 : declared a < length a → Gives a (fault 16 (declared a) (declared a + 1))
     refuse-16 l = record {
       fault = too-long (t .fine);
-      numbered = refl;
-      placed = refl;
+      is = refl;
       seen = omega arith;
       best = λ g h. let e = ends g (t .past g h) .over none in record { sooner = omega (arith, e); lower = λ _. omega (arith, e); nearer = λ _ _. omega (arith, e) };
     }

@@ -1,22 +1,24 @@
 -- LOCALITY of the table: a fault that is shown at k depends on the first k bytes alone. Each row by its bytes, the way by induction; the main
 -- header's rows by mphr's law. Assumes nothing.
-use Prim.Native.Nat.{ℕ, _+_, _*_, _≤_, _<_}
+use Prim.Native.Nat.{ℕ, _+_, _≤_, _<_}
+use native.Mathlib.Nat.{le-refl}
 use native.Mathlib.Decide.{decLt}
 use native.Mathlib.Omega.{arith}
 use mathlib.Core.Path.{_≡_, refl, sym, _∙_, ap}
-use mathlib.Core.Bool.{true}
 use mathlib.Core.Logic.{_⊎_, inl, inr, ⊎-elim}
-use mathlib.Core.List.{List, _++_}
-use lib.ListN.{length, length-append, List·getD-append}
+use mathlib.Core.List.{List}
+use lib.ListN.{length}
 use Rattle.meter.specs.Integer.{beAt}
 use Rattle.record.proofs.TimesLaws.{timed-same}
-use Rattle.text.proofs.Same.{Same, same-back}
-use Rattle.mphr.specs.Table.{declared, total, Row, fault, Before}
+use Rattle.tables.specs.Table.{fault}
+use Rattle.tables.specs.Lawful.{Same, Lawful}
+use Rattle.tables.proofs.Laws.{same-back, shown-is}
+use Rattle.mphr.specs.Table.{declared, total}
 use Rattle.mphr.proofs.Prefix.{fine-on}
 use Rattle.mphr.proofs.Prefix as M
 use Rattle.mphr.proofs.Export.{sized}
 use Rattle.mphr.proofs.TurnLaws.{shown-most}
-use Rattle.judge.specs.Table.{Site, site, first, classAt, kindAt, sizeAt, aimClass, aimAt, offsetAt, Sound, Leads, here, on, Target, Pointer, Wrong, part-left, unknown, misplaced, bad-size, bad-times, surplus, bad-target, points-inside, points-at-other, too-few, rowAt, Fault, main, at, too-long, row, shown, Whole, Open}
+use Rattle.judge.specs.Table.{Site, first, classAt, kindAt, sizeAt, aimClass, aimAt, offsetAt, Sound, Leads, here, on, Target, Pointer, Wrong, part-left, unknown, misplaced, bad-size, bad-times, surplus, bad-target, points-inside, points-at-other, too-few, rowAt, Fault, main, at, too-long, row, shown, table, Whole, Open}
 use Rattle.judge.specs.Turning.{Onward, Turn}
 use Rattle.judge.proofs.RankLaws.{class-most}
 use Rattle.judge.proofs.WayLaws.{leads-le, counts, linear, ends-by, facts, goes, met}
@@ -110,6 +112,9 @@ local {a} {k = k} same (too-long d) h =
     let m : 3307 ≤ k = omega (arith, sized d) in
     (too-long (fine-on same m d), ap (λ (d : ℕ). fault 16 d (d + 1)) (declared-on same m))
 
+pub lawful : Lawful table
+lawful = record { alike = local; kept = λ r. refl; one = λ r s e. e }
+
 -- THE WALK'S PLACE STAYS: what the walk knows at x it knows in each arrival that has the same bytes up to x
 within : {a : List ℕ} {x : Site} (w : Wrong a x) → Sound a (x .at) → rowAt w .shown ≤ x .at + sizeAt a (x .at)
 within (part-left u v) s = omega (arith, s .least)
@@ -131,7 +136,7 @@ module _ {a b : List ℕ} {x : Site} (same : Same a b (x .at)) (come : x .at ≤
   way-on = leads-on same far (t .way) (omega arith)
 
   past-on : (g : Fault b) → shown g ≤ length b → Onward x g
-  past-on (main g) h = let f = M.local (same-back same) g (omega (arith, shown-most g, far)) in t .past (main (f .0)) (omega (arith, ap (λ (r : Row). r .shown) (f .1), shown-most g, far, t .come))
+  past-on (main g) h = let f = M.local (same-back same) g (omega (arith, shown-most g, far)) in t .past (main (f .0)) (omega (arith, shown-is (f .1), shown-most g, far, t .come))
   past-on (too-long f) h = tt
   past-on (at f y l w) h = ⊎-elim (λ m. m) (λ m. go m) (linear way-on l)
     where
@@ -139,7 +144,7 @@ module _ {a b : List ℕ} {x : Site} (same : Same a b (x .at)) (come : x .at ≤
       before m d =
           let s = goes m d in
           let v = wrong-on (same-back same) far l w (omega (arith, within w (s .0), leads-le (s .1))) in
-          let k = t .past (at (fine-on (same-back same) far f) y (leads-on (same-back same) far l (omega arith)) (v .0)) (omega (arith, ap (λ (r : Row). r .shown) (v .1), within w (s .0), leads-le (s .1), t .come)) in
+          let k = t .past (at (fine-on (same-back same) far f) y (leads-on (same-back same) far l (omega arith)) (v .0)) (omega (arith, shown-is (v .1), within w (s .0), leads-le (s .1), t .come)) in
           absurd (omega (arith, leads-le k))
 
       go : Leads b y x → Leads b x y
@@ -158,26 +163,28 @@ module _ {a b : List ℕ} {x : Site} (same : Same a b (x .at)) (come : x .at ≤
     past = past-on;
   }
 
--- ONE COUNT AND END AT MOST ARE RIGHT
+-- WHAT IS WHOLE STAYS
 -- what leads no further than the record at x is x
-pub stay : {a : List ℕ} {x y : Site} → Leads a x y → (Sound a (x .at) → y .at < x .at + sizeAt a (x .at)) → Leads a y x
+stay : {a : List ℕ} {x y : Site} → Leads a x y → (Sound a (x .at) → y .at < x .at + sizeAt a (x .at)) → Leads a y x
 stay here h = here
 stay (on s l) h = absurd (omega (arith, h s, leads-le l))
 
 abbrev pub OpenAt : List ℕ → ℕ → ℕ → Type 0
 OpenAt a c e = ((length a < 3307) × (c ≡ 0) × (e ≡ 0)) ⊎ ((3307 ≤ length a) × Whole a c e)
 
-same-count : {a : List ℕ} {x y : Site} → Leads a x y → Leads a y x → x .count ≡ y .count
-same-count l m = omega (arith, counts l, counts m)
-
-pub unique-open : {a : List ℕ} {c e c′ e′ : ℕ} → Open a c e → Open a c′ e′ → (c ≡ c′) × (e ≡ e′)
-unique-open {a} {c} {e} {c′} {e′} o o′ = go (o .whole) (o′ .whole)
+-- no fewer records are whole in an arrival that begins with another, and they end no earlier
+pub no-fewer : {a b : List ℕ} {c e c′ e′ : ℕ} → Same a b (length a) → length a ≤ length b → Open a c e → Open b c′ e′ → (c ≤ c′) × (e ≤ e′)
+no-fewer {a} {b} {c} {e} {c′} {e′} same long o o′ = go (o .whole) (o′ .whole)
   where
-    go : OpenAt a c e → OpenAt a c′ e′ → (c ≡ c′) × (e ≡ e′)
-    go (inl z) (inl z′) = omega arith
-    go (inl z) (inr w) = absurd (omega arith)
+    go : OpenAt a c e → OpenAt b c′ e′ → (c ≤ c′) × (e ≤ e′)
+    go (inl z) _ = omega arith
     go (inr w) (inl z) = absurd (omega arith)
-    go (inr (h, w)) (inr (h′, w′)) =
-        let l = ⊎-elim (λ l. l) (λ l. stay l (λ s. omega (arith, w′ .last s, w .come))) (linear (w .way) (w′ .way)) in
-        let m = ⊎-elim (λ l. l) (λ l. stay l (λ s. omega (arith, w .last s, w′ .come))) (linear (w′ .way) (w .way)) in
-        (same-count l m, omega (arith, leads-le l, leads-le m))
+    go (inr (h, w)) (inr (_, w′)) =
+        let l = ⊎-elim (λ l. l) (λ l. stay l (λ s. omega (arith, w′ .last s, w .come))) (linear (leads-on same h (w .way) (w .come)) (w′ .way)) in
+        (counts l, leads-le l)
+
+-- one count and end at most are right
+pub unique-open : {a : List ℕ} {c e c′ e′ : ℕ} → Open a c e → Open a c′ e′ → (c ≡ c′) × (e ≡ e′)
+unique-open {a} o q =
+    let s : Same a a (length a) = record { byte = λ j h. refl } in
+    omega (arith, no-fewer s (le-refl (length a)) o q, no-fewer s (le-refl (length a)) q o)

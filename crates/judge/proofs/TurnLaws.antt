@@ -3,17 +3,19 @@ use Prim.Native.Nat.{ℕ, _+_, _≤_, _<_}
 use native.Mathlib.Nat.{le-refl}
 use native.Mathlib.Decide.{decLt, ℕ-discrete}
 use native.Mathlib.Omega.{arith}
-use mathlib.Core.Path.{_≡_, refl, sym, _∙_, ap, subst}
+use mathlib.Core.Path.{_≡_, refl, sym, ap, subst}
 use mathlib.Core.Bool.{true}
 use mathlib.Core.Logic.{inl}
 use mathlib.Core.List.{List}
 use lib.ListN.{length, getD}
-use Rattle.mphr.specs.Table.{declared, total, Before}
+use Rattle.tables.specs.Table.{Row, Before}
+use Rattle.tables.proofs.Laws.{given, given-at, shown-is}
+use Rattle.mphr.specs.Table.{declared, total}
 use Rattle.mphr.specs.Table as M
 use Rattle.mphr.proofs.Export.{fine-early, sized}
 use Rattle.record.specs.Header.{isClass}
-use Rattle.judge.specs.Table.{Site, site, first, here, classAt, kindAt, sizeAt, oneMore, Sound, Fault, main, at, too-long, row, shown, Clean, Given, Open, Judged}
-use Rattle.judge.specs.Step.{Ranked, Ranking, any, Points, Quiet, Kept, Settling, InsideIs, OtherIs, ClearIs, SixIs, BadTargetIs, EntireIs, Bodied, noPointers}
+use Rattle.judge.specs.Table.{Site, site, first, here, classAt, sizeAt, oneMore, Sound, Fault, main, at, too-long, row, shown, Clean, Gives, Given, Open, Judged}
+use Rattle.judge.specs.Step.{Ranked, Ranking, Points, Quiet, Kept, Settling, InsideIs, OtherIs, ClearIs, SixIs, BadTargetIs, EntireIs, Bodied, noPointers}
 use Rattle.judge.specs.Turning.{Totals, Turn, Ready, Gone, refusedAt, Over, Fewer}
 use Rattle.judge.specs.declared.pointers.Pointers.{Pointers}
 use Rattle.judge.specs.declared.arrival.Arrival.{Arrival}
@@ -25,9 +27,6 @@ use Rattle.judge.proofs.JudgeLaws.{Plain, wait-head, sounds, refuse-6-h
 -- a refusal that is given, as the answer
 pub said : (a : List ℕ) {r : Arrival} {n p : ℕ} → r ≡ refusedAt n p → Given a n p → Judged a r
 said a e g = subst (Judged a) (sym e) g
-
-given-at : {a : List ℕ} {n p p′ : ℕ} → p ≡ p′ → Given a n p → Given a n p′
-given-at e g = rw e at g
 
 module _ {a ts : List ℕ} {d n i p : ℕ} {tl : List ℕ} {w : Pointers} (y : Ready a d (site n i p tl) ts w) where
   pub room : i + 20 ≤ declared a
@@ -41,10 +40,10 @@ module _ {a ts : List ℕ} {d n i p : ℕ} {tl : List ℕ} {w : Pointers} (y : R
 
   module _ {h : ℕ} (come : i + 20 ≤ length a) (ranked : Ranked a p i tl h) where
     pub say-6-head : h ≡ 6 → Given a 6 (i + 20)
-    say-6-head e = refuse-6-head (y .turn) room ranked e come
+    say-6-head e = given (refuse-6-head (y .turn) room ranked e come)
 
     pub say-head : (h ≡ 6 → ⊥) → h < 12 → Given a h i
-    say-head e l = refuse-head (y .turn) room ranked (omega (arith, ranked .low)) l come
+    say-head e l = given (refuse-head (y .turn) room ranked (omega (arith, ranked .low)) l come)
 
     module _ (high : 12 ≤ h) {z : ℕ} (z-is : z ≡ sizeAt a i) where
       pub sound : Sound a i
@@ -57,13 +56,13 @@ module _ {a ts : List ℕ} {d n i p : ℕ} {tl : List ℕ} {w : Pointers} (y : R
       settling = record { fine = y .turn .fine; kept = y .kept; least = omega (arith, sound .least, z-is); most = omega (arith, sound .most, z-is, y .d-is); come = come; d-is = y .d-is }
 
       pub say-13 : {q : ℕ} → InsideIs a w i (i + z) q → Given a 13 q
-      say-13 k = refuse-13 (y .turn) room ranked (omega arith) (first-widened (y .kept) (rw z-is at (k .found))) (k .some) come
+      say-13 k = given (refuse-13 (y .turn) room ranked (omega arith) (first-widened (y .kept) (rw z-is at (k .found))) (k .some) come)
 
       widen : {lo hi j : ℕ} → Quiet a (w .end) lo hi j → Quiet a i lo hi j
       widen h q b = h q (ended (y .kept) b)
 
       pub say-14 : {q : ℕ} → OtherIs a w i (i + z) q → Given a 14 q
-      say-14 k = refuse-14 (y .turn) room ranked (omega arith) (first-none (widen (rw z-is at (k .none)))) refl (first-widened (y .kept) (k .found)) (k .some) (k .small) come
+      say-14 k = given (refuse-14 (y .turn) room ranked (omega arith) (first-none (widen (rw z-is at (k .none)))) refl (first-widened (y .kept) (k .found)) (k .some) (k .small) come)
 
       pub bodied : Bodied a i (i + z) d
       bodied = record { d-is = y .d-is; small = y .small; come = come; ipr = λ o. omega (arith, z-is, sound .ipr o); most = omega (arith, sound .most, z-is, y .d-is) }
@@ -76,10 +75,10 @@ module _ {a ts : List ℕ} {d n i p : ℕ} {tl : List ℕ} {w : Pointers} (y : R
         say-part l = wait-body (y .turn) room f (omega (arith, z-is))
 
         pub say-6 : SixIs a (i + z) → Given a 6 (i + z)
-        say-6 s = given-at (sym to-is) (refuse-6 (y .turn) room f (omega (arith, z-is, s .more)) (omega (arith, z-is, s .part)) (omega (arith, z-is, s .come)))
+        say-6 s = given-at (sym to-is) (given (refuse-6 (y .turn) room f (omega (arith, z-is, s .more)) (omega (arith, z-is, s .part)) (omega (arith, z-is, s .come))))
 
         pub say-12 : BadTargetIs a i (i + z) → Given a 12 i
-        say-12 b = refuse-12 (y .turn) room f (λ h. omega (arith, z-is, b .ended .not-part (omega (arith, z-is)))) (b .ipr) (b .bad) (omega (arith, b .ended .come, z-is, sound .ipr (b .ipr)))
+        say-12 b = given (refuse-12 (y .turn) room f (λ h. omega (arith, z-is, b .ended .not-part (omega (arith, z-is)))) (b .ipr) (b .bad) (omega (arith, b .ended .come, z-is, sound .ipr (b .ipr))))
 
         module _ {u : Pointers} (e : EntireIs a i (i + z) v u) where
           on-it : Turn a (site (n + 1) (i + sizeAt a i) (classAt a i) (oneMore tl (classAt a i)))
@@ -127,23 +126,26 @@ over-at e f s t = record { d-is = e; at-end = refl; totals = s; turn = rw f at t
 
 module _ {a ts tl : List ℕ} {d n p : ℕ} (o : Over a d (site n d p tl) ts) where
   pub say-15 : Fewer ts tl → Given a 15 d
-  say-15 f = refuse-15 (o .turn) (o .d-is) (few-of (o .totals) f)
+  say-15 f = given (refuse-15 (o .turn) (o .d-is) (few-of (o .totals) f))
 
   pub say-16 : (Fewer ts tl → ⊥) → d < length a → Given a 16 d
-  say-16 f l = given-at (sym (o .d-is)) (refuse-16 (o .turn) (o .d-is) (not-few (o .totals) f) (omega (arith, o .d-is)))
+  say-16 f l = given-at (sym (o .d-is)) (given (refuse-16 (o .turn) (o .d-is) (not-few (o .totals) f) (omega (arith, o .d-is))))
 
   pub say-whole : (Fewer ts tl → ⊥) → length a ≤ d → Open a n d
   say-whole f l = wait-end (o .turn) (o .d-is) (not-few (o .totals) f) (omega (arith, o .d-is))
 
 -- ---- the main header's answer, handed on
 -- a refusal of the main header is the product's: a fault of a fine header is shown before any record
-pub hand-best : {a : List ℕ} {n p : ℕ} (g : M.Given a n p) (h : Fault a) → shown h ≤ length a → Before (row (main (g .fault))) (row h)
+hand-best : {a : List ℕ} {r : Row} → M.Gives a r → (h : Fault a) → shown h ≤ length a → Before r (row h)
 hand-best g (main h) s = g .best h s
-hand-best g (at f y l w) s = let e = fine-early f (g .fault) in record { sooner = omega (arith, leads-le l, facts w .from); lower = λ d. absurd (omega (arith, leads-le l, facts w .from)); nearer = λ d. absurd (omega (arith, leads-le l, facts w .from)) }
-hand-best g (too-long f) s = let e = fine-early f (g .fault) in let z = sized f in record { sooner = omega (arith, z); lower = λ d. absurd (omega (arith, z)); nearer = λ d. absurd (omega (arith, z)) }
+hand-best g (at f y l w) s = omega (arith, fine-early f (g .fault), shown-is (g .is), leads-le l, facts w .from)
+hand-best g (too-long f) s = omega (arith, fine-early f (g .fault), shown-is (g .is), sized f)
 
-unfoldable pub hand-on : {a : List ℕ} {n p : ℕ} → M.Given a n p → Given a n p
-hand-on {a} g = record { fault = main (g .fault); numbered = g .numbered; placed = g .placed; seen = g .seen; best = hand-best g }
+pub hands-on : {a : List ℕ} {r : Row} → M.Gives a r → Gives a r
+hands-on g = record { fault = main (g .fault); is = g .is; seen = g .seen; best = hand-best g }
+
+pub hand-on : {a : List ℕ} {n p : ℕ} → M.Given a n p → Given a n p
+hand-on g = given (hands-on (g .gives))
 
 pub open-early : {a : List ℕ} → M.Clean a → length a < 3307 → Open a 0 0
 open-early {a} c l = record { clean = clean; whole = inl (l, refl, refl) }

@@ -2,14 +2,15 @@
 -- way, head first. Assumes nothing.
 use Prim.Native.Nat.{ℕ, _+_, _≤_, _<_}
 use native.Mathlib.Nat.{le-refl}
-use native.Mathlib.Decide.{decLe, decLt, ℕ-discrete}
+use native.Mathlib.Decide.{decLe, ℕ-discrete}
 use native.Mathlib.Omega.{arith}
-use mathlib.Core.Path.{_≡_, refl, sym, _∙_, ap}
+use mathlib.Core.Path.{_≡_, refl}
 use mathlib.Core.Logic.{_⊎_, inl, inr, ⊎-elim}
 use mathlib.Core.List.{List}
-use lib.ListN.{length, getD}
-use Rattle.mphr.specs.Table.{declared, total, Row, fault, Fine}
-use Rattle.judge.specs.Table.{Site, site, first, classAt, kindAt, sizeAt, aimClass, aimAt, offsetAt, Sound, Leads, here, on, next, Target, Pointer, Head, Wrong, part-left, unknown, misplaced, bad-size, bad-times, surplus, bad-target, points-inside, points-at-other, too-few, rowAt}
+pub use Rattle.tables.proofs.Passing.{holds}
+use Rattle.mphr.specs.Table.{declared}
+use Rattle.mphr.proofs.Export as M
+use Rattle.judge.specs.Table.{Site, first, classAt, sizeAt, aimClass, offsetAt, Sound, Leads, here, on, next, Target, Wrong, part-left, unknown, misplaced, bad-size, bad-times, surplus, bad-target, points-inside, points-at-other, too-few, rowAt, Fault, main, at, too-long, number}
 
 pub leads-le : {a : List ℕ} {x y : Site} → Leads a x y → x .at ≤ y .at
 leads-le {x = x} here = le-refl (x .at)
@@ -52,10 +53,6 @@ pub ends-by : {a : List ℕ} {q x : Site} → Leads a first q → Leads a first 
 ends-by v w h = ⊎-elim (λ l. leads-le (goes l h .1)) (λ l. absurd (omega (arith, leads-le l))) (linear v w)
 
 -- ---- what can be decided
-pub holds : {P : Type 0} → Dec P → ((P → ⊥) → ⊥) → P
-holds (yes p) n = p
-holds (no m) n = absurd (n m)
-
 -- a part of 20 or more, 27 where the class is 3
 implied : {P Q : Type 0} → Dec P → Dec Q → Dec (P → Q)
 implied _ (yes q) = yes (λ _. q)
@@ -107,3 +104,9 @@ facts (bad-target s o c) = let z = s .ipr o in omega (arith, s .most)
 facts (points-inside q p r b u v) = omega arith
 facts (points-at-other q p r b e c) = omega arith
 facts (too-few e c l u v) = omega arith
+
+-- a fault's number
+pub numbers : {a : List ℕ} (f : Fault a) → (1 ≤ number f) × (number f ≤ 16)
+numbers (main g) = omega (arith, M.numbers g)
+numbers (at _ x _ w) = omega (arith, facts w .six, facts w .most)
+numbers (too-long _) = omega arith

@@ -11,7 +11,9 @@ use Rattle.meter.specs.Integer.{beAt}
 use Rattle.record.specs.Header.{isClass, isGroup}
 use Rattle.record.specs.Follow.{mayFollow}
 use Rattle.record.specs.Times.{timedAt}
-use Rattle.mphr.specs.Table.{declared, total, Row, fault, Before, Fine}
+use Rattle.tables.specs.Table.{Row, fault, Table}
+use Rattle.tables.specs.Table as T
+use Rattle.mphr.specs.Table.{declared, total, Fine}
 use Rattle.mphr.specs.Table as M
 use Rattle.judge.specs.declared.arrival.Arrival.{Arrival}
 use Rattle.judge.specs.declared.arrival.Arrival.the-variants.{Waiting, Refused}
@@ -161,17 +163,21 @@ place f = row f .place
 abbrev pub shown : {a : List ℕ} → Fault a → ℕ
 shown f = row f .shown
 
+-- what is given of them, by the rule of every table: numbers go in their own order
+abbrev pub table : Table
+table = record { Fault = Fault; row = row; order = λ r. r }
+
 -- no fault is shown
 abbrev pub Clean : List ℕ → Type 0
-Clean a = (g : Fault a) → shown g ≤ length a → ⊥
+Clean a = T.Clean table a
 
--- "Of the shown faults the one shown earliest is given, then the lowest number, then the lowest place": the refusal (n, p) is given
-pub record Given (a : List ℕ) (n p : ℕ) : Type 0 where
-  pub fault : Fault a
-  pub numbered : number fault ≡ n
-  pub placed : place fault ≡ p
-  pub seen : shown fault ≤ length a
-  pub best : (g : Fault a) → shown g ≤ length a → Before (row fault) (row g)
+-- "Of the shown faults the one shown earliest is given, then the lowest number, then the lowest place": r is its row
+abbrev pub Gives : List ℕ → Row → Type 0
+Gives a r = T.Gives table a r
+
+-- the refusal (n, p) is given
+abbrev pub Given : List ℕ → ℕ → ℕ → Type 0
+Given a n p = T.Given table a n p
 
 -- of an arrival that shows no fault c records are whole, and the last ends at e
 pub record Whole (a : List ℕ) (c e : ℕ) : Type 0 where

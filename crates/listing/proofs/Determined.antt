@@ -8,6 +8,7 @@ use mathlib.Core.List.{List, _∷_, _++_}
 use lib.ListN.{length, drop}
 use Rattle.calendar.specs.declared.Refusal.{Refusal}
 use Rattle.mphr.specs.Layout.{bytesOf}
+use Rattle.tables.proofs.Laws.{not-clean}
 use Rattle.mphr.proofs.Prefix.{same-refusal}
 use Rattle.judge.specs.Extent.{Complete, Covered}
 use Rattle.finish.specs.Finish.{starts}
@@ -34,7 +35,7 @@ wrote-at e f = rw e at f
 
 not-both : {a room : List ℕ} {n m p : ℕ} {x : List ℕ} → Lists a room n x → NoList a room m p → ⊥
 not-both f (too-large h) = omega (arith, f .small)
-not-both f (faulty _ g) = f .complete .clean (g .fault) (g .seen)
+not-both f (faulty _ g) = not-clean g (f .complete .clean)
 not-both f (short _ c s) = ⊎-elim (λ z. omega (arith, f .complete .header)) (λ z. omega (arith, f .complete .come)) s
 not-both f (no-room _ k v l) = omega (arith, f .wrote .bytes, f .wrote .fits, ap length (one-listing k (f .covered) v))
 
@@ -45,14 +46,14 @@ one-refusal (too-large h) (short l _ _) = absurd (omega arith)
 one-refusal (too-large h) (no-room l _ _ _) = absurd (omega arith)
 one-refusal (faulty h f) (too-large l) = absurd (omega arith)
 one-refusal (faulty h f) (faulty l g) = unique-given f g
-one-refusal (faulty h f) (short l c s) = absurd (c (f .fault) (f .seen))
-one-refusal (faulty h f) (no-room l k v r) = absurd (k .clean (f .fault) (f .seen))
+one-refusal (faulty h f) (short l c s) = absurd (not-clean f c)
+one-refusal (faulty h f) (no-room l k v r) = absurd (not-clean f (k .clean))
 one-refusal (short h c s) (too-large l) = absurd (omega arith)
-one-refusal (short h c s) (faulty l g) = absurd (c (g .fault) (g .seen))
+one-refusal (short h c s) (faulty l g) = absurd (not-clean g c)
 one-refusal (short h c s) (short l d t) = (refl, refl)
 one-refusal (short h c s) (no-room l k v r) = absurd (⊎-elim (λ z. omega (arith, k .header)) (λ z. omega (arith, k .come)) s)
 one-refusal (no-room h k v r) (too-large l) = absurd (omega arith)
-one-refusal (no-room h k v r) (faulty l g) = absurd (k .clean (g .fault) (g .seen))
+one-refusal (no-room h k v r) (faulty l g) = absurd (not-clean g (k .clean))
 one-refusal (no-room h k v r) (short l c s) = absurd (⊎-elim (λ z. omega (arith, k .header)) (λ z. omega (arith, k .come)) s)
 one-refusal (no-room h k v r) (no-room l j w t) = (refl, ap length (one-listing k v w))
 

@@ -5,19 +5,15 @@ use native.Mathlib.Omega.{arith}
 use mathlib.Core.Path.{_≡_, refl, ap}
 use mathlib.Core.List.{List, _++_}
 use lib.ListN.{length, getD, length-append}
-use mathlib.Core.Bool.{_&&_}
-use borrow.Author.Tests.{eqb-true}
-use lib.Dec.{eqb}
-use Rattle.judge.specs.Table.{Site, sizeAt, Leads, here, on, Fault, main, at, too-long, number}
-use Rattle.judge.proofs.WayLaws.{facts}
-use Rattle.mphr.specs.Table as M
-use Rattle.meter.specs.Integer.{beAt}
-use Rattle.meter.proofs.GeneralRuns.{and-true}
-use Rattle.mphr.specs.Table.{headed, declared}
+use Rattle.tables.proofs.Laws.{number-is}
+use Rattle.judge.specs.Table.{Site, sizeAt, Leads, here, on}
+use Rattle.judge.proofs.WayLaws.{numbers}
+use Rattle.mphr.specs.Table.{declared}
 use Rattle.judge.specs.Extent.{Complete, Covered}
 use Rattle.finish.specs.Finish.{starts}
 use Rattle.judge.proofs.Covering.{whole-come}
 use Rattle.demands.proofs.Accepted.{complete-is-product}
+use Rattle.demands.proofs.Counting.{main-size}
 use Rattle.listing.specs.Decimal.{column}
 use Rattle.listing.specs.Listing.{line, lines, listing, NoList, too-large, faulty, short, no-room, refusalLine}
 use Rattle.listing.proofs.DecimalLaws.{length-most}
@@ -60,10 +56,6 @@ fewer : {a : List ℕ} {x y : Site} → Leads a x y → y .count + x .at ≤ x .
 fewer here = omega arith
 fewer (on s l) = omega (arith, fewer l, s .least)
 
-main-size : {a : List ℕ} → Complete a → sizeAt a 0 ≡ 3307
-unfolding headed
-main-size {a} k = eqb-true (beAt a 4 4) 3307 (and-true ((eqb (getD a 0 0) 1) && (eqb (getD a 1 0) 0 && eqb (getD a 2 0) 0)) (eqb (beAt a 4 4) 3307) (complete-is-product k .header .header) .1)
-
 pub enough : {a : List ℕ} {c : ℕ} → Bytes a → length a ≤ 65536 → Complete a → (v : Covered a c) → length (listing v) ≤ 131072
 enough {a} {c} b h k v =
     let d : declared a ≤ 65536 = omega (arith, whole-come k) in
@@ -75,30 +67,16 @@ enough {a} {c} b h k v =
       length-append (line a 0) ls,
       column-length c 10,
       length-most 4 c (omega (arith, v .counted, v .ends, fewer (v .way), d)),
-      line-small a 0 b (omega arith) (omega (arith, main-size k)),
+      line-small a 0 b (omega arith) (omega (arith, main-size a (complete-is-product k .header .header))),
       lines-small b d (v .way),
       v .ends,
       d,
     )
 
--- no row of the table has the number 18
-main-number : {a : List ℕ} (g : M.Fault a) → M.number g ≤ 16
-main-number (M.bad-header _) = omega arith
-main-number (M.bad-line k _ (M.bad-frame _)) = omega arith
-main-number (M.bad-line k _ (M.bad-value _)) = omega arith
-main-number (M.bad-size _ _) = omega arith
-main-number (M.bad-totals _ _) = omega arith
-main-number (M.bad-times _) = omega arith
-
-number-most : {a : List ℕ} (f : Fault a) → number f ≤ 16
-number-most (main g) = main-number g
-number-most (at _ x _ w) = omega (arith, facts w .most)
-number-most (too-long _) = omega arith
-
--- with such a room nothing is refused for want of room
+-- with such a room nothing is refused for want of room: no row of the table has the number 18
 pub never-18 : {a room : List ℕ} {n p : ℕ} → Bytes a → 131072 ≤ length room → NoList a room n p → n ≡ 18 → ⊥
 never-18 b r (too-large h) e = omega arith
-never-18 b r (faulty h g) e = omega (arith, g .numbered, number-most (g .fault))
+never-18 b r (faulty h g) e = omega (arith, number-is (g .gives .is), numbers (g .gives .fault))
 never-18 b r (short h c s) e = omega arith
 never-18 b r (no-room h k v l) e = omega (arith, enough b h k v)
 

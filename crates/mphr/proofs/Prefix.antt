@@ -1,27 +1,27 @@
 -- THE PREFIX LAW of the main header: a fault that is shown at k depends on the first k bytes alone, so a refusal stays for every longer
 -- arrival; and one answer at most is right. Each test looks only at bytes of its line. Assumes nothing.
 use mathlib.Core.Path.{_≡_, refl, sym, ap, _∙_}
-use mathlib.Core.Bool.{Bool, true, false}
-use mathlib.Core.Logic.{_⊎_, inl, inr, ⊎-elim}
-use mathlib.Core.List.{List, _++_}
+use mathlib.Core.Logic.{inl, inr, ⊎-elim}
+use mathlib.Core.List.{List}
 use Prim.Native.Nat.{ℕ, zero, suc, _+_, _*_, _≤_, _<_}
-use native.Mathlib.Decide.{decLe}
 use native.Mathlib.Omega.{arith}
 use lib.Dec.{eqb}
-use lib.ListN.{length, getD, length-append, List·getD-append}
+use lib.ListN.{getD}
 use Rattle.calendar.specs.Said.{refusing}
 use Rattle.calendar.specs.declared.Refusal.{Refusal}
-use Rattle.meter.specs.General.{lead}
 use Rattle.meter.specs.Integer.{beAt}
 use Rattle.meter.proofs.IntegerLaws.{beAt-same}
 use Rattle.record.proofs.TimesLaws.{timed-same as timed-at-same}
 use Rattle.text.proofs.Alike.{lead-cong}
-use Rattle.text.proofs.Same.{Same, same-back, number-same, value-same}
+use Rattle.tables.specs.Lawful.{Same, Lawful}
+use Rattle.tables.proofs.Laws.{same-back, number-is, not-clean}
+use Rattle.tables.proofs.Laws as L
+use Rattle.text.proofs.Same.{number-same, value-same}
 use Rattle.mphr.specs.Layout.{names, widthOf, kindOf, lineStart}
-use Rattle.mphr.specs.Table.{headed, timed, named, framed, valued, declared, total, sum, Sums, Row, WrongLine, bad-frame, bad-value, Fault, bad-header, bad-line, bad-size, bad-totals, bad-times, row, number, place, shown, Before, Given, Clean, Fine, FirstIs}
+use Rattle.mphr.specs.Table.{headed, timed, named, framed, valued, declared, total, sum, Sums, bad-frame, bad-value, Fault, bad-header, bad-line, bad-size, bad-totals, bad-times, row, number, shown, table, Clean, Fine, FirstIs}
 use Rattle.mphr.specs.declared.faults.HeaderFault.{HeaderFault}
 use Rattle.mphr.specs.declared.faults.HeaderFault.the-variants as F
-use Rattle.mphr.proofs.LayoutLaws.{start-next, total-start, start-mono, start-64, start-29}
+use Rattle.mphr.proofs.LayoutLaws.{start-next, start-mono, start-64, start-29}
 use Rattle.mphr.proofs.TurnLaws.{shown-most}
 
 module _ (a b : List ℕ) (k : ℕ) (same : Same a b k) where
@@ -83,54 +83,20 @@ local {a} {b} {k} same (bad-totals v d) h = (
 )
 local {a} {b} {k} same (bad-times e) h = (bad-times (sym (timed-same a b k same h) ∙ e), refl)
 
-shown-is : {f g : Row} → f ≡ g → f .shown ≡ g .shown
-shown-is e = ap (λ (r : Row). r .shown) e
-
-module _ (a t : List ℕ) where
-  longer : length a ≤ length (a ++ t)
-  longer = omega (arith, length-append a t)
-
-  same : Same a (a ++ t) (length a)
-  same = record { byte = λ j h. sym (List·getD-append a t 0 j h) }
-
-  pub stays-refused : {n p : ℕ} → Given a n p → Given (a ++ t) n p
-  stays-refused {n} {p} g =
-      let f = local same (g .fault) (g .seen) in
-      record {
-        fault = f .0;
-        numbered = sym (ap (λ (k : Row). k .number) (f .1)) ∙ g .numbered;
-        placed = sym (ap (λ (k : Row). k .place) (f .1)) ∙ g .placed;
-        seen = omega (arith, shown-is (f .1), g .seen, longer);
-        best = λ h _. best (f .0) (f .1) h (decLe (shown h) (length a));
-      }
-    where
-      best : (f : Fault (a ++ t)) → row (g .fault) ≡ row f → (h : Fault (a ++ t)) → Dec (shown h ≤ length a) → Before (row f) (row h)
-      best f w h (no l) = let e : shown f ≤ length a = omega (arith, shown-is w, g .seen) in omega arith
-      best f w h (yes l) =
-          let u = local (same-back same) h l in
-          rw (← w, u .1) (g .best (u .0) (omega (arith, shown-is (u .1))))
-
-  pub stays-clean : Clean (a ++ t) → Clean a
-  stays-clean c g h = let f = local same g h in c (f .0) (omega (arith, shown-is (f .1), longer))
+-- so what holds of every table (`tables`, proofs/Laws.antt) holds of this one: a refusal stays for every longer arrival
+pub lawful : Lawful table
+lawful = record { alike = local; kept = λ r. refl; one = λ r s e. e }
 
 -- one answer at most is right
-pub unique-given : {a : List ℕ} {n p n′ p′ : ℕ} → Given a n p → Given a n′ p′ → (n ≡ n′) × (p ≡ p′)
-unique-given g h =
-    let u = g .best (h .fault) (h .seen) in
-    let v = h .best (g .fault) (g .seen) in
-    let e : shown (g .fault) ≡ shown (h .fault) = omega (arith, u .sooner, v .sooner) in
-    let f : number (g .fault) ≡ number (h .fault) = omega (arith, u .lower e, v .lower (sym e)) in
-    (omega (arith, g .numbered, h .numbered), omega (arith, g .placed, h .placed, u .nearer e f, v .nearer (sym e) (sym f)))
-
 pub same-refusal : (x y : Refusal) → x .number ≡ y .number → x .place ≡ y .place → x ≡ y
 same-refusal x y n p = ap (λ (k : ℕ). refusing k (x .place)) n ∙ ap (refusing (y .number)) p
 
 pub unique-header-fault : (a : List ℕ) (r s : HeaderFault) → FirstIs a r → FirstIs a s → r ≡ s
 unique-header-fault a F.Clean F.Clean h k = refl
-unique-header-fault a F.Clean (F.Refused x) h k = absurd (h (k .fault) (k .seen))
-unique-header-fault a (F.Refused x) F.Clean h k = absurd (k (h .fault) (h .seen))
-unique-header-fault a (F.Refused x) (F.Refused y) h k = let u = unique-given h k in ap F.Refused (same-refusal x y (u .0) (u .1))
+unique-header-fault a F.Clean (F.Refused x) h k = absurd (not-clean k h)
+unique-header-fault a (F.Refused x) F.Clean h k = absurd (not-clean h k)
+unique-header-fault a (F.Refused x) (F.Refused y) h k = let u = L.unique-given table lawful h k in ap F.Refused (same-refusal x y (u .0) (u .1))
 
 -- EXPORTED: a header that is fine stays so
 pub fine-on : {a b : List ℕ} {k : ℕ} → Same a b k → 3307 ≤ k → Fine a → Fine b
-fine-on same h f g n = let u = local (same-back same) g (omega (arith, shown-most g)) in f (u .0) (omega (arith, ap (λ (r : Row). r .number) (u .1)))
+fine-on same h f g n = let u = local (same-back same) g (omega (arith, shown-most g)) in f (u .0) (omega (arith, number-is (u .1)))

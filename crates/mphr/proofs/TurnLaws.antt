@@ -1,17 +1,20 @@
 -- What the walk over the lines can say at each way out. Every fault is shown where a line starts (its stage), so that a fault of the
 -- next stage with the lowest number is the first, and none is passed over. Assumes nothing.
-use mathlib.Core.Path.{_≡_, refl, sym, ap, _∙_}
-use mathlib.Core.Bool.{Bool, true, false, true≢false}
-use mathlib.Core.Logic.{_⊎_, inl, inr, ⊎-elim}
+use mathlib.Core.Path.{_≡_, refl, sym, ap}
+use mathlib.Core.Bool.{true, false}
+use mathlib.Core.Logic.{_⊎_, ⊎-elim}
 use mathlib.Core.List.{List}
-use Prim.Native.Nat.{ℕ, zero, suc, _+_, _≤_, _<_}
+use Prim.Native.Nat.{ℕ, suc, _+_, _≤_, _<_}
 use native.Mathlib.Numerals.{add-one}
 use native.Mathlib.Omega.{arith}
-use native.Mathlib.Decide.{ℕ-discrete, decLt}
-use lib.ListN.{length, getD}
+use native.Mathlib.Decide.{ℕ-discrete}
+use lib.ListN.{length}
+use Rattle.tables.specs.Table.{Before}
+use Rattle.tables.proofs.Laws.{given, given-at}
+use Rattle.tables.proofs.Passing.{passes, clash}
 use Rattle.text.specs.Field.{isNumber}
-use Rattle.mphr.specs.Layout.{widthOf, kindOf, lineStart}
-use Rattle.mphr.specs.Table.{headed, timed, framed, valued, declared, Sums, WrongLine, bad-frame, bad-value, Fault, bad-header, bad-line, bad-size, bad-totals, bad-times, row, number, place, shown, Before, Given, Clean}
+use Rattle.mphr.specs.Layout.{widthOf, lineStart}
+use Rattle.mphr.specs.Table.{headed, timed, framed, valued, declared, Sums, bad-frame, bad-value, Fault, bad-header, bad-line, bad-size, bad-totals, bad-times, row, number, place, shown, Given, Clean}
 use Rattle.mphr.specs.Turning.{stage, Past, Gone, Later, Counts, Ready}
 use Rattle.mphr.proofs.LayoutLaws.{start-next, start-29, start-64, start-72, start-mono, start-less}
 use Rattle.mphr.proofs.LineLaws.{size-number, total-number}
@@ -37,27 +40,16 @@ stage-most (bad-times _) = omega arith
 pub shown-most : {a : List ℕ} (g : Fault a) → shown g ≤ 3307
 shown-most g = omega (arith, shown-is g, start-mono (stage-most g), start-72)
 
-clash : {b : Bool} → b ≡ true → b ≡ false → ⊥
-clash t f = true≢false (sym t ∙ f)
-
--- a fault of the stage after k, which goes before the others of that stage, is given
-pub give :
-    {a : List ℕ} {k : ℕ} (f : Fault a) → Past a k → stage f ≡ suc k → lineStart (suc k) ≤ length a
-    → ((g : Fault a) → stage g ≡ suc k → (number f ≤ number g) × (number f ≡ number g → place f ≤ place g)) → Given a (number f) (place f)
-give {a} {k} f past e come low = record {
-  fault = f;
-  numbered = refl;
-  placed = refl;
-  seen = omega (arith, shown-is f, ap lineStart e);
-  best = λ g _. best g (ℕ-discrete (stage g) (suc k));
-}
+-- a fault of a stage before which there is none, which goes before the others of that stage, is given
+give :
+    {a : List ℕ} (k : ℕ) (f : Fault a) → ((g : Fault a) → k ≤ stage g) → stage f ≡ k → lineStart k ≤ length a
+    → ((g : Fault a) → stage g ≡ k → (number f ≤ number g) × (number f ≡ number g → place f ≤ place g)) → Given a (number f) (place f)
+give {a} k f past e come low =
+    given (record { fault = f; is = refl; seen = omega (arith, shown-is f, ap lineStart e); best = λ g _. best g (ℕ-discrete (stage g) k) })
   where
-    best : (g : Fault a) → Dec (stage g ≡ suc k) → Before (row f) (row g)
+    best : (g : Fault a) → Dec (stage g ≡ k) → Before (row f) (row g)
     best g (yes s) = let l = low g s in record { sooner = omega (arith, shown-is f, shown-is g, ap lineStart e, ap lineStart s); lower = λ _. l .0; nearer = λ _. l .1 }
-    best g (no d) =
-        let u : suc k < stage g = omega (arith, past g, d) in
-        let v : shown f < shown g = omega (arith, shown-is f, shown-is g, ap lineStart e, start-less u) in
-        record { sooner = omega arith; lower = λ q. absurd (omega arith); nearer = λ q. absurd (omega arith) }
+    best g (no d) = let u : k < stage g = omega (arith, past g, d) in omega (arith, shown-is f, shown-is g, ap lineStart e, start-less u)
 
 -- ---- before the lines
 pub begin : {a : List ℕ} → headed a ≡ true → timed a ≡ true → Past a 0
@@ -71,25 +63,9 @@ pub wait-first : {a : List ℕ} → length a < 20 → Clean a
 unfolding lineStart
 wait-first l g s = omega (arith, shown-is g, start-mono {j = 0} {k = stage g} (omega arith))
 
-first : {a : List ℕ} (f : Fault a) → stage f ≡ 0 → 20 ≤ length a → ((g : Fault a) → stage g ≡ 0 → (number f ≤ number g) × (number f ≡ number g → place f ≤ place g)) → Given a (number f) (place f)
-unfolding lineStart
-first {a} f e come low = record {
-  fault = f;
-  numbered = refl;
-  placed = refl;
-  seen = omega (arith, shown-is f, ap lineStart e);
-  best = λ g _. best g (ℕ-discrete (stage g) 0);
-}
-  where
-    best : (g : Fault a) → Dec (stage g ≡ 0) → Before (row f) (row g)
-    best g (yes s) = let l = low g s in record { sooner = omega (arith, shown-is f, shown-is g, ap lineStart e, ap lineStart s); lower = λ _. l .0; nearer = λ _. l .1 }
-    best g (no d) =
-        let u : 0 < stage g = omega (arith, d) in
-        let v : shown f < shown g = omega (arith, shown-is f, shown-is g, ap lineStart e, start-less u) in
-        record { sooner = omega arith; lower = λ q. absurd (omega arith); nearer = λ q. absurd (omega arith) }
-
 pub refuse-1 : {a : List ℕ} → headed a ≡ false → 20 ≤ length a → Given a 1 0
-refuse-1 {a} h come = first (bad-header h) refl come low
+unfolding lineStart
+refuse-1 {a} h come = give 0 (bad-header h) (λ g. omega arith) refl come low
   where
     low : (g : Fault a) → stage g ≡ 0 → (1 ≤ number g) × (1 ≡ number g → 0 ≤ place g)
     low (bad-header e) s = omega arith
@@ -100,7 +76,8 @@ refuse-1 {a} h come = first (bad-header h) refl come low
     low (bad-times e) s = omega arith
 
 pub refuse-10 : {a : List ℕ} → headed a ≡ true → timed a ≡ false → 20 ≤ length a → Given a 10 0
-refuse-10 {a} h t come = first (bad-times t) refl come low
+unfolding lineStart
+refuse-10 {a} h t come = give 0 (bad-times t) (λ g. omega arith) refl come low
   where
     low : (g : Fault a) → stage g ≡ 0 → (10 ≤ number g) × (10 ≡ number g → 0 ≤ place g)
     low (bad-header e) s = absurd (clash h e)
@@ -111,11 +88,7 @@ refuse-10 {a} h t come = first (bad-times t) refl come low
 
 -- the lines before stage k have values of their kinds
 pub past-valued : {a : List ℕ} {k : ℕ} → Past a k → (j : ℕ) → j < k → j < 72 → valued a j ≡ true
-past-valued {a} {k} past j h l = go (valued a j) refl
-  where
-    go : (b : Bool) → valued a j ≡ b → valued a j ≡ true
-    go true e = e
-    go false e = absurd (omega (arith, past (bad-line j l (bad-value e))))
+past-valued {a} past j h l = passes (valued a j) (λ e. omega (arith, past (bad-line j l (bad-value e))))
 
 -- ---- a line
 module _ {a : List ℕ} {k : ℕ} (line : k < 72) (past : Past a k) where
@@ -130,7 +103,7 @@ module _ {a : List ℕ} {k : ℕ} (line : k < 72) (past : Past a k) where
     value-at {j} s e = let i : k ≡ j = omega arith in rw i e
 
     pub refuse-2 : framed a k ≡ false → Given a 2 (lineStart k)
-    refuse-2 e = give (bad-line k line (bad-frame e)) past refl come low
+    refuse-2 e = give (suc k) (bad-line k line (bad-frame e)) past refl come low
       where
         low : (g : Fault a) → stage g ≡ suc k → (2 ≤ number g) × (2 ≡ number g → lineStart k ≤ place g)
         low (bad-header _) s = absurd (omega arith)
@@ -142,7 +115,7 @@ module _ {a : List ℕ} {k : ℕ} (line : k < 72) (past : Past a k) where
 
     module _ (frame : framed a k ≡ true) where
       pub refuse-3 : valued a k ≡ false → Given a 3 (lineStart k + 32)
-      refuse-3 e = give (bad-line k line (bad-value e)) past refl come low
+      refuse-3 e = give (suc k) (bad-line k line (bad-value e)) past refl come low
         where
           low : (g : Fault a) → stage g ≡ suc k → (3 ≤ number g) × (3 ≡ number g → lineStart k + 32 ≤ place g)
           low (bad-header _) s = absurd (omega arith)
@@ -164,7 +137,7 @@ module _ {a : List ℕ} {k : ℕ} (line : k < 72) (past : Past a k) where
             pick (no d) = past-valued past (55 + j) (omega (arith, d)) (omega arith)
 
         pub refuse-4 : k ≡ 28 → (declared a < 3307) ⊎ (2147483647 < declared a) → Given a 4 1485
-        refuse-4 e d = give (bad-size (value-28 e) d) past (omega arith) come low
+        refuse-4 e d = give (suc k) (bad-size (value-28 e) d) past (omega arith) come low
           where
             low : (g : Fault a) → stage g ≡ suc k → (4 ≤ number g) × (4 ≡ number g → 1485 ≤ place g)
             low (bad-header _) s = absurd (omega arith)
@@ -175,7 +148,7 @@ module _ {a : List ℕ} {k : ℕ} (line : k < 72) (past : Past a k) where
             low (bad-times _) s = omega arith
 
         pub refuse-5 : k ≡ 63 → (Sums a → ⊥) → Given a 5 2675
-        refuse-5 e d = give (bad-totals (values-55 e) d) past (omega arith) come low
+        refuse-5 e d = give (suc k) (bad-totals (values-55 e) d) past (omega arith) come low
           where
             low : (g : Fault a) → stage g ≡ suc k → (5 ≤ number g) × (5 ≡ number g → 2675 ≤ place g)
             low (bad-header _) s = absurd (omega arith)
@@ -201,9 +174,6 @@ pub whole : {a : List ℕ} {k : ℕ} → 72 ≤ k → Past a k → Clean a
 whole l past g _ = omega (arith, past g, stage-most g)
 
 -- ---- a line, in the code's names: it starts at p, its value is w wide
-given-at : {a : List ℕ} {n p q : ℕ} → p ≡ q → Given a n p → Given a n q
-given-at e g = rw e at g
-
 module _ {a : List ℕ} {k p w : ℕ} (y : Ready a k p) (wide : w ≡ widthOf k) where
   to-is : p + w + 33 ≡ lineStart (suc k)
   to-is = omega (arith, start-next k, y .at-is)

@@ -7,7 +7,9 @@ use mathlib.Core.Bool.{Bool, true, false, _&&_}
 use mathlib.Core.Logic.{_⊎_}
 use mathlib.Core.List.{List}
 use lib.Dec.{eqb}
-use lib.ListN.{length, getD}
+use lib.ListN.{getD}
+use Rattle.tables.specs.Table.{Row, fault, Table}
+use Rattle.tables.specs.Table as T
 use Rattle.meter.specs.Integer.{beAt}
 use Rattle.meter.specs.General.{lead, numberOf}
 use Rattle.record.specs.Times.{timedAt}
@@ -55,15 +57,6 @@ pub record Sums (a : List ℕ) : Type 0 where
   pub second : total a 2 ≤ 1
   pub all : total a 0 ≡ sum a 8
 
--- what is given of a fault: its number, its place, and the length of the shortest arrival that shows it
-pub record Row : Type 0 where
-  pub number : ℕ
-  pub place : ℕ
-  pub shown : ℕ
-
-abbrev pub fault : ℕ → ℕ → ℕ → Row
-fault n p k = record { number = n; place = p; shown = k }
-
 -- THE TABLE, the rows of a line
 pub data WrongLine (a : List ℕ) (k : ℕ) : Type 0 where
   bad-frame : framed a k ≡ false → WrongLine a k
@@ -97,23 +90,19 @@ place f = row f .place
 abbrev pub shown : {a : List ℕ} → Fault a → ℕ
 shown f = row f .shown
 
--- THE RULE: f goes before g, or is as good
-pub record Before (f g : Row) : Type 0 where
-  pub sooner : f .shown ≤ g .shown
-  pub lower : f .shown ≡ g .shown → f .number ≤ g .number
-  pub nearer : f .shown ≡ g .shown → f .number ≡ g .number → f .place ≤ g .place
+-- THE RULE, and what is given by it: numbers go in their own order
+abbrev pub table : Table
+table = record { Fault = Fault; row = row; order = λ r. r }
 
--- the refusal (n, p) is given
-pub record Given (a : List ℕ) (n p : ℕ) : Type 0 where
-  pub fault : Fault a
-  pub numbered : number fault ≡ n
-  pub placed : place fault ≡ p
-  pub seen : shown fault ≤ length a
-  pub best : (g : Fault a) → shown g ≤ length a → Before (row fault) (row g)
+abbrev pub Gives : List ℕ → Row → Type 0
+Gives a r = T.Gives table a r
+
+abbrev pub Given : List ℕ → ℕ → ℕ → Type 0
+Given a n p = T.Given table a n p
 
 -- no fault is shown
 abbrev pub Clean : List ℕ → Type 0
-Clean a = (g : Fault a) → shown g ≤ length a → ⊥
+Clean a = T.Clean table a
 
 -- the header has none of the faults 1 to 5, on which all that follows it rests
 abbrev pub Fine : List ℕ → Type 0

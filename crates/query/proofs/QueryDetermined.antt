@@ -8,7 +8,7 @@ use mathlib.Core.Logic.{inl, inr, ⊎-elim}
 use mathlib.Core.List.{List}
 use Rattle.record.specs.Header.{headerAt}
 use Rattle.record.specs.declared.header.Header.{Header}
-use Rattle.judge.specs.Table.{Site, Leads, here, on, Clean, Given, Open}
+use Rattle.judge.specs.Table.{Site, Leads, here, on, Open}
 use Rattle.judge.specs.declared.arrival.Arrival.the-variants.{Waiting}
 use Rattle.query.specs.Query as Q
 use Rattle.query.specs.Query.{StartOf, RecordFound, NoRecord, not-yet, RecordIs, Denied, short, no-field, Allowed, texts, FieldIs, NumberIs, TimeIs, PointIs}
@@ -24,6 +24,7 @@ use Rattle.query.specs.declared.PointAnswer.{PointAnswer}
 use Rattle.query.specs.declared.PointAnswer.the-variants as P
 use Rattle.judge.proofs.WayLaws.{counts, linear}
 use Rattle.calendar.specs.declared.Refusal.{Refusal}
+use Rattle.tables.proofs.Laws.{not-clean}
 use Rattle.mphr.proofs.Prefix.{same-refusal}
 use Rattle.demands.proofs.Prefix.{unique-given, unique-arrival}
 
@@ -33,9 +34,6 @@ one-refusal r s e = same-refusal r s (e .0) (e .1)
 -- ---- of the judge
 one-count : (a : List ℕ) (c e d f : ℕ) → Open a c e → Open a d f → c ≡ d
 one-count a c e d f o p = let z = unique-arrival a (Waiting c e) (Waiting d f) o p in cc
-
-not-both : {a : List ℕ} {n p : ℕ} → Clean a → Given a n p → ⊥
-not-both c g = c (g .fault) (g .seen)
 
 -- ---- the record query
 same-place : {a : List ℕ} {x y : Site} → Leads a x y → x .count ≡ y .count → x .at ≡ y .at
@@ -53,12 +51,12 @@ one-start (inr s) (inr t) =
 
 one-no-record : {a : List ℕ} {k n p m q : ℕ} → NoRecord a k n p → NoRecord a k m q → (n ≡ m) × (p ≡ q)
 one-no-record (Q.NoRecord.faulty f) (Q.NoRecord.faulty g) = unique-given f g
-one-no-record (Q.NoRecord.faulty f) (not-yet o h) = absurd (not-both (o .clean) f)
-one-no-record (not-yet o h) (Q.NoRecord.faulty g) = absurd (not-both (o .clean) g)
+one-no-record (Q.NoRecord.faulty f) (not-yet o h) = absurd (not-clean f (o .clean))
+one-no-record (not-yet o h) (Q.NoRecord.faulty g) = absurd (not-clean g (o .clean))
 one-no-record (not-yet o h) (not-yet p l) = (refl, one-count _ _ _ _ _ o p)
 
 no-and-found : {a : List ℕ} {k n p i : ℕ} {h : Header} → RecordFound a k i h → NoRecord a k n p → ⊥
-no-and-found f (Q.NoRecord.faulty g) = not-both (f .waiting .clean) g
+no-and-found f (Q.NoRecord.faulty g) = not-clean g (f .waiting .clean)
 no-and-found f (not-yet o l) = omega (arith, f .below, one-count _ _ _ _ _ (f .waiting) o)
 
 pub unique-record-at : (a : List ℕ) (k : ℕ) (r s : RecordAnswer) → RecordIs a k r → RecordIs a k s → r ≡ s
@@ -73,17 +71,17 @@ unique-record-at a k (R.Refused r) (R.Refused s) f e = ap R.Refused (one-refusal
 -- ---- the field queries
 one-denied : {a : List ℕ} {k sort n p m q : ℕ} → Denied a k sort n p → Denied a k sort m q → (n ≡ m) × (p ≡ q)
 one-denied (Q.Denied.faulty f) (Q.Denied.faulty g) = unique-given f g
-one-denied (Q.Denied.faulty f) (short c h) = absurd (not-both c f)
-one-denied (Q.Denied.faulty f) (no-field c h d) = absurd (not-both c f)
-one-denied (short c h) (Q.Denied.faulty g) = absurd (not-both c g)
+one-denied (Q.Denied.faulty f) (short c h) = absurd (not-clean f c)
+one-denied (Q.Denied.faulty f) (no-field c h d) = absurd (not-clean f c)
+one-denied (short c h) (Q.Denied.faulty g) = absurd (not-clean g c)
 one-denied (short c h) (short b l) = (refl, refl)
 one-denied (short c h) (no-field b l d) = absurd (omega arith)
-one-denied (no-field c h d) (Q.Denied.faulty g) = absurd (not-both c g)
+one-denied (no-field c h d) (Q.Denied.faulty g) = absurd (not-clean g c)
 one-denied (no-field c h d) (short b l) = absurd (omega arith)
 one-denied (no-field c h d) (no-field b l e) = (refl, refl)
 
 no-and-yes : {a : List ℕ} {k sort n p : ℕ} → Allowed a k sort → Denied a k sort n p → ⊥
-no-and-yes w (Q.Denied.faulty g) = not-both (w .clean) g
+no-and-yes w (Q.Denied.faulty g) = not-clean g (w .clean)
 no-and-yes w (short c h) = omega (arith, w .come)
 no-and-yes w (no-field c h d) = d (w .field)
 

@@ -1,22 +1,14 @@
 -- Locality: the value of a field that ends by byte k is a matter of the first k bytes. The field of the one arrival and of the other are
 -- alike. Assumes nothing.
-use mathlib.Core.Path.{_≡_, sym}
-use mathlib.Core.Bool.{Bool}
+use mathlib.Core.Path.{_≡_}
 use mathlib.Core.List.{List}
-use Prim.Native.Nat.{ℕ, _+_, _≤_, _<_}
+use Prim.Native.Nat.{ℕ, _+_, _≤_}
 use native.Mathlib.Omega.{arith}
-use lib.ListN.{getD}
+use Rattle.tables.specs.Lawful.{Same}
 use Rattle.meter.specs.General.{numberOf}
 use Rattle.text.specs.Field.{isValue}
 use Rattle.text.specs.declared.Kind.{Kind}
 use Rattle.text.proofs.Alike.{Alike, number-alike, value-alike}
-
--- the first k bytes are the same
-pub record Same (a b : List ℕ) (k : ℕ) : Type 0 where
-  pub byte : (j : ℕ) → j < k → getD a j 0 ≡ getD b j 0
-
-pub same-back : {a b : List ℕ} {k : ℕ} → Same a b k → Same b a k
-same-back s = record { byte = λ j h. sym (s .byte j h) }
 
 module _ {a b : List ℕ} {k : ℕ} (same : Same a b k) where
   pub field-alike : (i w : ℕ) → i + w ≤ k → Alike a b i i w

@@ -1,0 +1,77 @@
+-- THE MISSION'S THREE DEMANDS hold (specs/Demands.antt has them beside its sentences). Demand 1 by the numbers of the table's rows; demand 2 is that of
+-- Accepted; demand 3 by the laws of every table (crate `tables`) at the judge's, and by the records' numbers (Counting). Assumes nothing. The
+-- other entries' refusals and lent rooms are fixed by their own promises (docs/PROMISES.md).
+use Prim.Native.Nat.{ℕ, _≤_, _<_}
+use native.Mathlib.Omega.{arith}
+use mathlib.Core.Path.{_≡_, refl, sym, _∙_}
+use mathlib.Core.List.{List, _++_}
+use lib.ListN.{length, getD}
+use Rattle.calendar.specs.declared.Refusal.{Refusal}
+use Rattle.tables.specs.Table.{fault}
+use Rattle.tables.proofs.Laws.{given, not-clean, number-is, nothing-earlier, never-later}
+use Rattle.judge.specs.Table.{table, Clean, Gives, Given, Judged}
+use Rattle.judge.specs.declared.arrival.Arrival.{Arrival}
+use Rattle.judge.specs.declared.arrival.Arrival.the-variants.{Waiting, Refused}
+use Rattle.finish.specs.Finish.{Refuses, faulty, short, no-room, FinishedIs}
+use Rattle.finish.specs.declared.Finished.the-variants as F
+use Rattle.judge.proofs.WayLaws.{numbers}
+use Rattle.judge.proofs.Local.{lawful}
+use Rattle.judge.proofs.Covering.{whole-come}
+use Rattle.demands.specs.Demands.{start, Grows, Comes, Demand1, Demand2, Demand3}
+use Rattle.demands.proofs.Prefix.{unique-arrival, refusal-kept, refusal-final}
+use Rattle.demands.proofs.Accepted.{accepted-meets, meets-accepted}
+use Rattle.demands.proofs.Counting.{counts-are, grows, ends-whole, indexed}
+
+-- ---- DEMAND 1
+given-number : {a : List ℕ} {n p : ℕ} → Given a n p → (1 ≤ n) × (n ≤ 16)
+given-number g = let f = g .gives in omega (arith, number-is (f .is), numbers (f .fault))
+
+refused-number : {a : List ℕ} {room n p : ℕ} → Refuses a room n p → (1 ≤ n) × (n ≤ 18)
+refused-number (faulty g) = omega (arith, given-number g)
+refused-number (short _ _) = omega arith
+refused-number (no-room _ _ _) = omega arith
+
+pub demand-1 : Demand1
+demand-1 = record {
+  arrival = λ a r g. given-number g;
+  extent = λ a r g. given-number g;
+  finished = λ a ix ix′ r f. let n = refused-number (f .0) in (n .0, n .1, f .1);
+}
+
+-- ---- DEMAND 2
+pub demand-2 : Demand2
+demand-2 = record { only = λ a ix ix′ c f. accepted-meets f; every = meets-accepted }
+
+-- ---- DEMAND 3
+-- an arrival that shows no fault is not refused
+waits : {a : List ℕ} → Clean a → (s : Arrival) → Judged a s → (c : ℕ) × (e : ℕ) × (s ≡ Waiting c e)
+waits c (Waiting n e) j = (n, e, refl)
+waits c (Refused r) j = absurd (not-clean j c)
+
+comes : (a : List ℕ) (r : Refusal) → Given a (r .number) (r .place) → Comes a r
+comes a r g = record {
+  shown = g .shown;
+  gives = g .gives;
+  waits = λ b t e h. waits (nothing-earlier table lawful b t (at-prefix e) h);
+  refused = λ b t e h s j. unique-arrival b s (Refused r) j (given (never-later table lawful b t (at-prefix e) h));
+}
+  where
+    at-prefix : {d : List ℕ} → d ≡ a → Gives d (fault (r .number) (r .place) (g .shown))
+    at-prefix e = rw e (g .gives)
+
+accepted :
+    (a t ix ix′ : List ℕ) (c e n : ℕ) → Judged a (Waiting c e) → FinishedIs (a ++ t) ix (F.Accepted n) ix′
+    → Grows a c e (a ++ t) n (length (a ++ t)) × ((k : ℕ) → k < n → getD ix′ k 0 ≡ start (a ++ t) k)
+accepted a t ix ix′ c e n o f =
+    let v = f .filled .covered in
+    (rw (v .ends ∙ sym (whole-come (f .complete))) at (grows o t (ends-whole (f .complete) v)), indexed (f .complete) (f .filled))
+
+pub demand-3 : Demand3
+demand-3 = record {
+  final = λ a t r g. refusal-kept a t g;
+  final-finished = λ a t r g ix ix′ s f. refusal-final a t g ix s ix′ f .0;
+  counted = λ a c e o. counts-are o;
+  waiting = λ a t c e n d o q. grows o t q;
+  accepted = accepted;
+  soonest = λ a r g. comes a r g;
+}

@@ -1,0 +1,78 @@
+-- THE MISSION'S THREE DEMANDS, over the judges' answers: `Judged a r` says that r is right to answer of the arrival a, `FinishedIs a ix r ix′` that r is
+-- right to answer of the finished product a and that the index, ix before, is then ix′. Each judge ends with such an answer for any bytes: its
+-- promise has no `requires`. Assumes nothing.
+use Prim.Native.Nat.{ℕ, zero, suc, _+_, _≤_, _<_}
+use mathlib.Core.Path.{_≡_}
+use mathlib.Core.List.{List, _∷_, _++_}
+use lib.ListN.{length, getD}
+use Rattle.calendar.specs.declared.Refusal.{Refusal}
+use Rattle.tables.specs.Table.{fault}
+use Rattle.judge.specs.Table.{Gives, Judged}
+use Rattle.judge.specs.Extent.{ExtentIs}
+use Rattle.judge.specs.declared.arrival.Arrival.{Arrival}
+use Rattle.judge.specs.declared.arrival.Arrival.the-variants.{Waiting, Refused}
+use Rattle.judge.specs.declared.arrival.Extent.the-variants as X
+use Rattle.finish.specs.Finish.{put, FinishedIs}
+use Rattle.finish.specs.declared.Finished.{Finished}
+use Rattle.finish.specs.declared.Finished.the-variants as F
+use Rattle.demands.specs.Product.{size, Meets}
+
+-- where record k starts: record 0, the main header, at byte 0; each other where the one before it ends
+unfoldable pub start : List ℕ → ℕ → ℕ
+start a zero = 0
+start a (suc k) = start a k + size a (start a k)
+
+-- DEMAND 1. "Any bytes, of any length, may be handed in. Each entry judges its own input and ends with an answer or a numbered refusal with a place. A
+-- refusal leaves each lent buffer as it came": a refusal has a number of the table, and the index is as it came
+pub record Demand1 : Type 0 where
+  pub arrival : (a : List ℕ) (r : Refusal) → Judged a (Refused r) → (1 ≤ r .number) × (r .number ≤ 16)
+  pub extent : (a : List ℕ) (r : Refusal) → ExtentIs a (X.Refused r) → (1 ≤ r .number) × (r .number ≤ 16)
+  pub finished : (a ix ix′ : List ℕ) (r : Refusal) → FinishedIs a ix (F.Refused r) ix′ → (1 ≤ r .number) × (r .number ≤ 18) × (ix′ ≡ ix)
+
+-- DEMAND 2. "A product is accepted exactly when it meets the format" (`Meets`, Product.antt), given room for its starts. "The index then holds those
+-- starts", from place 0 on, and what it held at the others
+pub record Demand2 : Type 0 where
+  pub only : (a ix ix′ : List ℕ) (c : ℕ) → FinishedIs a ix (F.Accepted c) ix′ → (m : Meets a) × (c ≡ suc (length (m .list))) × (ix′ ≡ put 0 (0 ∷ m .list) ix)
+  pub every :
+      (a ix ix′ : List ℕ) (m : Meets a) → suc (length (m .list)) ≤ length ix → (r : Finished) → FinishedIs a ix r ix′
+      → (r ≡ F.Accepted (suc (length (m .list)))) × (ix′ ≡ put 0 (0 ∷ m .list) ix)
+
+-- c records of a are whole, the first of them the main header of 3,307 bytes; the last ends at byte e
+pub record Counted (a : List ℕ) (c e : ℕ) : Type 0 where
+  pub main : 0 < c → size a 0 ≡ 3307
+  pub within : (k : ℕ) → k < c → start a k + size a (start a k) ≤ e
+  pub end : start a c ≡ e
+  pub come : e ≤ length a
+
+-- record k of a is record k of b, at the same place and of the same size
+pub record Stays (a b : List ℕ) (k : ℕ) : Type 0 where
+  pub place : start b k ≡ start a k
+  pub sized : size b (start b k) ≡ size a (start a k)
+
+-- the c records of a, which end at e, are the first of the n of b, which end at d
+pub record Grows (a : List ℕ) (c e : ℕ) (b : List ℕ) (n d : ℕ) : Type 0 where
+  pub count : c ≤ n
+  pub end : e ≤ d
+  pub each : (k : ℕ) → k < c → Stays a b k
+
+-- the refusal r of a comes at `shown` bytes: of the arrivals that a begins with, those that are shorter wait, and all others get r
+pub record Comes (a : List ℕ) (r : Refusal) : Type 0 where
+  pub shown : ℕ
+  pub gives : Gives a (fault (r .number) (r .place) shown)
+  pub waits : (b t : List ℕ) → b ++ t ≡ a → length b < shown → (s : Arrival) → Judged b s → (c : ℕ) × (e : ℕ) × (s ≡ Waiting c e)
+  pub refused : (b t : List ℕ) → b ++ t ≡ a → shown ≤ length b → (s : Arrival) → Judged b s → s ≡ Refused r
+
+-- DEMAND 3, of an arrival a and every longer one, a ++ t
+pub record Demand3 : Type 0 where
+  -- "A refusal of an arrival is final: every longer arrival, finished or not, gets the same number and place"
+  pub final : (a t : List ℕ) (r : Refusal) → Judged a (Refused r) → (s : Arrival) → Judged (a ++ t) s → s ≡ Refused r
+  pub final-finished : (a t : List ℕ) (r : Refusal) → Judged a (Refused r) → (ix ix′ : List ℕ) (s : Finished) → FinishedIs (a ++ t) ix s ix′ → s ≡ F.Refused r
+  -- "What was counted stays, at the same place and size": what is counted; where the longer one waits; where it is accepted as a finished product,
+  -- whose index has the starts of its n records
+  pub counted : (a : List ℕ) (c e : ℕ) → Judged a (Waiting c e) → Counted a c e
+  pub waiting : (a t : List ℕ) (c e n d : ℕ) → Judged a (Waiting c e) → Judged (a ++ t) (Waiting n d) → Grows a c e (a ++ t) n d
+  pub accepted :
+      (a t ix ix′ : List ℕ) (c e n : ℕ) → Judged a (Waiting c e) → FinishedIs (a ++ t) ix (F.Accepted n) ix′
+      → Grows a c e (a ++ t) n (length (a ++ t)) × ((k : ℕ) → k < n → getD ix′ k 0 ≡ start (a ++ t) k)
+  -- "A refusal comes at the shortest arrival that shows the fault, never later"
+  pub soonest : (a : List ℕ) (r : Refusal) → Judged a (Refused r) → Comes a r

@@ -8,7 +8,8 @@ use lib.ListN.{length, set, length-set}
 use Rattle.record.specs.Header.{sizeThere}
 use Rattle.record.proofs.HeaderLaws.{size-there}
 use Rattle.judge.specs.Table.{Site, site, first, classAt, sizeAt, oneMore, Leads, here, on, next}
-use Rattle.finish.specs.Finish.{starts, put, Refuses, Filled, FinishedIs, refusedWith, Fillable, Filling}
+use Rattle.finish.specs.Finish.{starts, put, Refuses, Filled, FinishedIs, refusedWith}
+use Rattle.finish.specs.Fill.{Fillable, Filling}
 use Rattle.finish.specs.declared.Finished.{Finished}
 use Rattle.judge.specs.Stretch.{over, further}
 use Rattle.judge.specs.Stretch as J

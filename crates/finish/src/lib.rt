@@ -8,7 +8,8 @@ use record::header::size_at;
 ghost use mathlib.Core.Path.{_≡_};
 ghost use Prim.Native.Nat.{_≤_, _<_};
 ghost use Rattle.judge.specs.Stretch.{StretchIs};
-ghost use Rattle.finish.specs.Finish.{Onward, Unread, Read, Stretched, Fillable, Filled, FinishedIs, refusedWith};
+ghost use Rattle.finish.specs.Finish.{Filled, FinishedIs, refusedWith};
+ghost use Rattle.finish.specs.Fill.{Fillable, Onward, Unread, Read, Stretched};
 
 pub enum Finished {
     Accepted { count: usize },

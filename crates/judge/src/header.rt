@@ -15,12 +15,20 @@ pub(crate) fn wide(b: u8) -> usize
     b as usize
 }
 
+// The number in the 2 bytes from `at` on.
+pub(crate) fn pair(s: &[u8], at: usize) -> usize
+    requires { ⌜ at + 2 ≤ length (now s) ⌝ }
+    ensures { λ r. ⌜ (r ≡ beAt (now (s .entry)) at 2) × (r < 65536) ⌝ }
+{
+    wide(s[at]) * 256 + wide(s[at + 1])
+}
+
 // The number in the 3 bytes from `at` on.
 pub(crate) fn triple(s: &[u8], at: usize) -> usize
     requires { ⌜ at + 3 ≤ length (now s) ⌝ }
     ensures { λ r. ⌜ (r ≡ beAt (now (s .entry)) at 3) × (r < 16777216) ⌝ }
 {
-    (wide(s[at]) * 256 + wide(s[at + 1])) * 256 + wide(s[at + 2])
+    pair(s, at) * 256 + wide(s[at + 2])
 }
 
 // The number in the 4 bytes from `at` on.

@@ -1,13 +1,12 @@
 // Whether the times of a header stand. Nearly all do by a look at their 12 bytes, whichever day they are of: each millisecond is one that
 // every day has, or the time is undefined. Of the others `record` judges, by the last millisecond of their days.
-use crate::header::wide;
+use crate::header::pair;
 use crate::header::word;
 ghost use mathlib.Core.Path.{_≡_};
 ghost use mathlib.Core.Bool.{true};
 ghost use mathlib.Core.Logic.{_⊎_};
 ghost use Prim.Native.Nat.{_+_, _*_, _≤_, _<_};
 ghost use lib.ListN.{length};
-ghost use Rattle.meter.specs.Integer.{beAt};
 ghost use Rattle.meter.specs.Time.{isTime, timeOf};
 ghost use Rattle.record.specs.Times.{timedAt};
 
@@ -16,14 +15,6 @@ const EVERY_DAY: u32 = 86_400_000;
 
 // All 48 bits one.
 const UNDEFINED: usize = 0xffff_ffff_ffff;
-
-// The number in the 2 bytes from `at` on.
-fn pair(s: &[u8], at: usize) -> usize
-    requires { ⌜ at + 2 ≤ length (now s) ⌝ }
-    ensures { λ r. ⌜ (r ≡ beAt (now (s .entry)) at 2) × (r < 65536) ⌝ }
-{
-    wide(s[at]) * 256 + wide(s[at + 1])
-}
 
 // A time for sure. (It is the next millisecond that is compared, which is 0 after 32 ones: the bound is a multiple of 256, and by the
 // millisecond itself the compiler would compare its upper three bytes alone and no longer read the four at once.)

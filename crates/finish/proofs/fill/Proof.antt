@@ -3,7 +3,7 @@
 use Prim.Native.Nat.{_-_}
 use native.Mathlib.Omega.{arith}
 use lib.ListN.{length, length-set}
-use Rattle.finish.specs.Finish.{Filling}
+use Rattle.finish.specs.Fill.{Filling}
 use Rattle.finish.proofs.Filling.{filling-first, some-room, filling-last}
 use Rattle.finish.proofs.fill.Statement.{statement}
 use Rattle.finish.proofs.fill.Tie as tie

@@ -8,7 +8,7 @@ use mathlib.Core.List.{List}
 use borrow.Author.Needs.{needs}
 use lib.ListN.{length, length-set}
 use Rattle.judge.specs.Table.{sizeAt}
-use Rattle.finish.specs.Finish.{Filling, Fillable}
+use Rattle.finish.specs.Fill.{Filling, Fillable}
 use Rattle.finish.proofs.Filling.{Within, within, there, filling-next, Alike, moved-on, less}
 use Rattle.finish.proofs.fill_alike.Statement.{statement}
 use Rattle.finish.proofs.fill_alike.Tie as tie

@@ -6,7 +6,7 @@ use denote.Ref.{now}
 use mathlib.Core.Path.{_≡_}
 use lib.ListN.{length}
 use Rattle.judge.specs.Table.{sizeAt}
-use Rattle.finish.specs.Finish.{Filling}
+use Rattle.finish.specs.Fill.{Filling}
 use Rattle.finish.proofs.Filling.{Within, within, filling-next, Evenly, even-step, less}
 use Rattle.finish.proofs.fill_even.Statement.{statement}
 use Rattle.finish.proofs.fill_even.Tie as tie

@@ -1,13 +1,9 @@
--- `judge::header::word` meets its contract: the bytes in turn. Assumes nothing.
+-- `judge::header::word` meets its contract: one byte more. Assumes nothing.
 use native.Mathlib.Omega.{arith}
-use Rattle.judge.proofs.WordLaws.{four}
+use Rattle.judge.proofs.WordLaws.{wider}
 use borrow.Author.Needs.{needs}
 use Rattle.judge.proofs.header.word.Statement.{statement}
 use Rattle.judge.proofs.header.word.Tie as tie
-use Rattle.judge.proofs.header.word.Reads as reads
-use Rattle.judge.proofs.header.word.Lts as lts
-use Rattle.judge.proofs.header.triple.Reads as triple-reads
-use Rattle.judge.proofs.header.wide.Reads as wide-reads
 
 triple-requires : tie.Need-triple-requires
 triple-requires c κs = search needs
@@ -28,7 +24,7 @@ add-result : tie.Need-add-result
 add-result c = search needs
 
 returns : tie.Need-returns
-returns c = (four _ _ (c .before .before .triple .ensures .0) (c .wide .ensures .0), omega arith)
+returns c = (wider _ _ 3 (c .before .before .triple .ensures .0) (c .wide .ensures .0), omega arith)
 
 pub word-spec : {M : Type 1} → statement M
 word-spec =

@@ -1,9 +1,9 @@
--- `judge::times::pair` meets its contract: the bytes in turn. Assumes nothing.
+-- `judge::header::pair` meets its contract: the bytes in turn. Assumes nothing.
 use native.Mathlib.Omega.{arith}
-use Rattle.judge.proofs.WordLaws.{two}
+use Rattle.judge.proofs.WordLaws.{one-byte, wider}
 use borrow.Author.Needs.{needs}
-use Rattle.judge.proofs.times.pair.Statement.{statement}
-use Rattle.judge.proofs.times.pair.Tie as tie
+use Rattle.judge.proofs.header.pair.Statement.{statement}
+use Rattle.judge.proofs.header.pair.Tie as tie
 
 shared-slice-read-wide : tie.Need-shared-slice-read-wide
 shared-slice-read-wide c = search needs
@@ -27,7 +27,7 @@ add-result : tie.Need-add-result
 add-result c = search needs
 
 returns : tie.Need-returns
-returns c = (two _ _ (c .before .before .wide .ensures .0) (c .wide2 .ensures .0), omega arith)
+returns c = (wider _ _ 1 (one-byte _ _ (c .before .before .wide .ensures .0)) (c .wide2 .ensures .0), omega arith)
 
 pub pair-spec : {M : Type 1} → statement M
 pair-spec =

@@ -1,1 +1,1 @@
-// Laws about the judges' promises, and no code: demand 2 (specs/Product.antt, proofs/Accepted.antt) and demand 3 (proofs/Prefix.antt).
+// Laws about the judges' promises, and no code: the three demands (specs/Demands.antt, proofs/Demands.antt), what a product is (specs/Product.antt).

@@ -9,11 +9,13 @@ use borrow.Author.Tests.{leb-true}
 use lib.Dec.{leb}
 use lib.IntN.{ℤ}
 use lib.ListN.{length, getD}
+use mir.Val.{Val}
+use denote.Laws.{Is}
 use Rattle.calendar.specs.Said.{Said, answer, refusal}
 use Rattle.meter.specs.Lent.{wrote}
 use Rattle.meter.specs.Integer.{stored, wordOf, fitsUnsigned, fitsSigned, saidUnsigned, saidSigned, unsignedAt, signedAt, WritesUnsigned, WritesSigned}
 use Rattle.meter.specs.Time.{isTime, bitsOf, timeReadAt, saidTime, WritesTime}
-use Rattle.meter.specs.General.{digitsOf, generalReadAt, saidGeneral, fitsGeneral, putGeneral, generalOf, textTimeAt, WritesGeneral, WritesText}
+use Rattle.meter.specs.General.{digitsOf, generalReadAt, saidGeneral, fitsGeneral, putGeneral, generalOf, textTimeAt, WritesGeneral, WritesTimeText}
 use Rattle.meter.specs.Scaled.{noneOf, scaledReadAt, saidScaled, fitsScaled, putScaled, WritesScaled}
 use Rattle.meter.specs.declared.integer.Written.{Written}
 use Rattle.meter.specs.declared.integer.Written.the-variants as W
@@ -32,9 +34,12 @@ use Rattle.meter.specs.declared.scaled.Scaled.the-variants as N
 use Rattle.meter.specs.declared.scaled.ScaledRead.{ScaledRead}
 use Rattle.meter.specs.declared.scaled.ScaledRead.the-variants as S
 use Rattle.meter.proofs.IntegerLaws.{stored-after}
+use Rattle.meter.proofs.time.Time as Typed
+use Rattle.meter.proofs.TimeLaws.{in-days, time-back}
+use Rattle.meter.proofs.GeneralTime.{time-text-back}
 use Rattle.meter.proofs.GeneralWrite.{width-low, general-kept, general-back}
 use Rattle.meter.proofs.ReadsBack.{unsigned-back, signed-back, scaled-back}
-use Rattle.meter.proofs.Determined.{unique-read-unsigned, unique-read-signed, unique-read-general, unique-read-scaled}
+use Rattle.meter.proofs.Determined.{unique-read-unsigned, unique-read-signed, unique-read-time, unique-read-general, unique-text-time, unique-read-scaled}
 
 -- ---- a promise by its cases, whatever number q a value that is not right is refused with
 pub beyond : (room : List ℕ) (n : ℕ) (right : Bool) (new exit : List ℕ) (j : ℕ) → exit ≡ wrote room n right new → (right ≡ true → n ≤ length room → getD new j 0 ≡ getD room j 0) → getD exit j 0 ≡ getD room j 0
@@ -74,8 +79,8 @@ module _ (room exit : List ℕ) (r : Written) (j : ℕ) where
   pub write-general-keeps : (long : Bool) (t : General) → WritesGeneral room long t r exit → digitsOf long + 1 ≤ j → getD exit j 0 ≡ getD room j 0
   write-general-keeps long t w h = beyond room (digitsOf long + 1) (fitsGeneral long t) (putGeneral (digitsOf long) room t) exit j (w .1) (λ _ _. general-kept (digitsOf long) room t j (width-low long) (omega arith))
 
-  pub time-text-keeps : (t : Time) → WritesText room t r exit → 18 ≤ j → getD exit j 0 ≡ getD room j 0
-  time-text-keeps t w h = beyond room 18 (isTime t) (putGeneral 17 room (generalOf t)) exit j (w .1) (λ _ _. general-kept 17 room (generalOf t) j (omega arith) (omega arith))
+  pub write-time-text-keeps : (t : Time) → WritesTimeText room t r exit → 18 ≤ j → getD exit j 0 ≡ getD room j 0
+  write-time-text-keeps t w h = beyond room 18 (isTime t) (putGeneral 17 room (generalOf t)) exit j (w .1) (λ _ _. general-kept 17 room (generalOf t) j (omega arith) (omega arith))
 
   pub write-scaled-keeps : (signed : Bool) (n : ℕ) (x : Scaled) → WritesScaled room signed n x r exit → 1 + n ≤ j → getD exit j 0 ≡ getD room j 0
   write-scaled-keeps signed n x w h = beyond room (1 + n) (fitsScaled signed n x) (putScaled signed n room x) exit j (w .1) (λ _ _. go x)
@@ -98,6 +103,17 @@ module _ (room exit : List ℕ) (m : ℕ) where
   write-signed-back n z w r e =
       let d = done room n _ (stored room 0 n (wordOf z)) exit 21 m (w .0) (w .1) in
       unique-read-signed exit 0 n r (I.Value z) e (rw (d .left) (sym (signed-back room n z (d .fits) (d .room-is))))
+
+  -- of a time of the machine's type, whose day has 16 bits
+  pub write-time-back : (t : Time) (vs : List Val) → Is Typed.the-row t vs → WritesTime room t (W.Bytes m) exit → (r : TimeRead) → saidTime r ≡ timeReadAt exit 0 → r ≡ T.Time t
+  write-time-back t vs g w r e =
+      let d = done room 6 (isTime t) (stored room 0 6 (bitsOf t)) exit 21 m (w .0) (w .1) in
+      unique-read-time exit 0 r (T.Time t) e (rw (d .left) (sym (time-back room t (in-days t vs g) (d .fits) (d .room-is))))
+
+  pub write-time-text-back : (t : Time) (vs : List Val) → Is Typed.the-row t vs → WritesTimeText room t (W.Bytes m) exit → (r : TimeRead) → saidTime r ≡ textTimeAt exit 0 → r ≡ T.Time t
+  write-time-text-back t vs g w r e =
+      let d = done room 18 (isTime t) (putGeneral 17 room (generalOf t)) exit 21 m (w .0) (w .1) in
+      unique-text-time exit 0 r (T.Time t) e (rw (d .left) (sym (time-text-back room t (d .fits) (in-days t vs g) (d .room-is))))
 
   pub write-general-back : (long : Bool) (t : General) → WritesGeneral room long t (W.Bytes m) exit → (r : GeneralRead) → saidGeneral r ≡ generalReadAt long exit 0 → r ≡ G.Time t
   write-general-back long t w r e =

@@ -31,7 +31,7 @@ use Rattle.mphr.specs.Layout.{names, nameOf, widthOf, kindOf, lineStart}
 use Rattle.mphr.specs.Table.{named, framed, valued}
 use Rattle.mphr.specs.Lines.{textFits, numberFits, timeFits, isLong, textOn, numberOn, timeOn, putFrame, putLine, WritesLine, WritesTextLine, WritesNumberLine, WritesTimeLine, WritesName}
 use Rattle.mphr.proofs.LineLaws as line
-use Rattle.mphr.proofs.WritingLaws.{frame-length, frame-name, frame-equals, frame-space, frame-feed, frame-kept, on-both, text-fits, number-fits, time-fits, time-wide}
+use Rattle.mphr.proofs.WritingLaws.{frame-length, frame-name, frame-equals, frame-space, frame-feed, frame-kept, on-both, is-text, number-fits, time-fits, time-wide}
 
 -- the arrival b has the line where line k stands
 pub record Stands (b : List ℕ) (k : ℕ) (l : List ℕ) : Type 0 where
@@ -102,13 +102,7 @@ module _ (k : ℕ) (put : List ℕ → List ℕ) (a : List ℕ) (p : Put k put a
 
 -- ---- a value of its kind
 text-kind : (d : Kind) (w : ℕ) (r t : List ℕ) → textFits d w t ≡ true → isValue d (putText r t) 0 w ≡ true
-unfolding textFits
-text-kind Text w r t e = text-valued w r t e
-text-kind Unsigned w r t e = absurd (true≢false (sym e))
-text-kind Count w r t e = absurd (true≢false (sym e))
-text-kind Signed w r t e = absurd (true≢false (sym e))
-text-kind Time w r t e = absurd (true≢false (sym e))
-text-kind LongTime w r t e = absurd (true≢false (sym e))
+text-kind d w r t e = let k = is-text d w t e in rw (k .0) (text-valued w r t (k .1))
 
 number-kind : (d : Kind) (w : ℕ) (r : List ℕ) (x : Number) → numberFits d w x ≡ true → w ≤ length r → isValue d (putNumber w r x) 0 w ≡ true
 unfolding numberFits
@@ -138,7 +132,7 @@ time-kind LongTime w r t e q h = rw (eq-eqb w 18 (sym q)) (is-general true r t e
 module _ (k : ℕ) (t a : List ℕ) (on : textOn k t ≡ true) (room : widthOf k + 33 ≤ length a) where
   text-wide-is : length t ≡ widthOf k
   unfolding textOn
-  text-wide-is = text-wide (widthOf k) t (text-fits (kindOf k) (widthOf k) t (on-both k (textFits (kindOf k) (widthOf k) t) on .1))
+  text-wide-is = text-wide (widthOf k) t (is-text (kindOf k) (widthOf k) t (on-both k (textFits (kindOf k) (widthOf k) t) on .1) .1)
 
   pub text-put : Put k (λ (r : List ℕ). putText r t) a
   unfolding textOn

@@ -15,7 +15,7 @@ use Rattle.text.specs.declared.Kind.the-variants.{Text, Unsigned, Count, Signed
 use Rattle.text.specs.declared.Number.{Number}
 use Rattle.mphr.specs.Layout.{widthOf, kindOf, lineStart}
 use Rattle.mphr.specs.Lines.{textFits, numberFits, timeFits, isLong, textOn, numberOn, timeOn, WritesTextLine, WritesNumberLine, WritesTimeLine}
-use Rattle.mphr.proofs.WritingLaws.{on-both}
+use Rattle.mphr.proofs.WritingLaws.{on-both, is-text}
 use Rattle.mphr.proofs.LineBack.{Stands, line-written, text-line-back, number-line-back, time-line-back}
 use Rattle.judge.specs.Table.{Clean}
 use Rattle.demands.specs.Product.{Meets}
@@ -33,13 +33,7 @@ use Rattle.query.proofs.QueryDetermined.{unique-text-field, unique-numb
 
 -- ---- the sort of a field that takes a value
 text-sort : (d : Kind) (w : ℕ) (t : List ℕ) → textFits d w t ≡ true → sortOf d ≡ texts
-unfolding textFits
-text-sort Text w t e = refl
-text-sort Unsigned w t e = absurd (true≢false (sym e))
-text-sort Count w t e = absurd (true≢false (sym e))
-text-sort Signed w t e = absurd (true≢false (sym e))
-text-sort Time w t e = absurd (true≢false (sym e))
-text-sort LongTime w t e = absurd (true≢false (sym e))
+text-sort d w t e = ap sortOf (is-text d w t e .0)
 
 number-sort : (d : Kind) (w : ℕ) (x : Number) → numberFits d w x ≡ true → sortOf d ≡ numbers
 unfolding numberFits

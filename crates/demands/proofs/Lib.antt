@@ -4,3 +4,4 @@ pub mod Accepted
 pub mod Put
 pub mod Example
 pub mod MarkedCases
+pub mod ProductLaws

@@ -6,10 +6,12 @@ use mathlib.Core.Path.{_≡_, refl, sym, ap, _∙_}
 use mathlib.Core.Bool.{Bool, true, false, true≢false}
 use mathlib.Core.List.{List}
 use lib.ListN.{length, take, drop, take-append-drop}
-use Rattle.meter.specs.General.{digitsOf}
+use Rattle.meter.specs.General.{digitsOf, isGeneral, putGeneral}
 use Rattle.meter.specs.declared.general.General.{General}
 use Rattle.meter.specs.declared.integer.Written.the-variants as W
 use Rattle.meter.proofs.ReadsBack.{reads-answer}
+use Rattle.text.specs.Field.{isNumeric}
+use Rattle.text.specs.Writing.{putNumber, putText}
 use Rattle.text.specs.declared.Kind.{Kind}
 use Rattle.text.specs.declared.Kind.the-variants.{Text, Unsigned, Count, Signed, Time, LongTime}
 use Rattle.text.specs.declared.Number.{Number}
@@ -21,7 +23,7 @@ use Rattle.judge.specs.Table.{Clean}
 use Rattle.demands.specs.Product.{Meets}
 use Rattle.demands.proofs.Prefix.{stays-clean}
 use Rattle.demands.proofs.Accepted.{meets-complete}
-use Rattle.query.specs.Query.{mainPart, sortOf, numbers, texts, timesOf, FieldOf, Allowed, valueStart, FieldIs, NumberIs, TimeIs}
+use Rattle.query.specs.Query.{mainPart, sortOf, numbers, texts, timesOf, FieldOf, Allowed, valueStart, FieldIs, numberIn, NumberIs, timeIn, TimeIs}
 use Rattle.query.specs.declared.FieldAnswer.{FieldAnswer}
 use Rattle.query.specs.declared.FieldAnswer.the-variants as F
 use Rattle.query.specs.declared.NumberAnswer.{NumberAnswer}
@@ -72,7 +74,7 @@ module _ {b : List ℕ} (m : Meets b) where
     pub text-answered : (t : List ℕ) → WritesTextLine room k t (W.Bytes n) exit → (r : FieldAnswer) → FieldIs b k texts r → (r ≡ F.Part (valueStart k) (widthOf k)) × (take (widthOf k) (drop (valueStart k) b) ≡ t)
     unfolding textOn
     text-answered t w r f =
-        let d = line-written room exit n k (textOn k t) _ w in
+        let d = line-written room exit n k (textOn k t) (λ (a : List ℕ). putText a t) w in
         let o = on-both k (textFits (kindOf k) (widthOf k) t) (d .fits) in
         let y = allowed (record { known = omega (arith, o .0); sorted = text-sort (kindOf k) (widthOf k) t (o .1) }) in (
           unique-text-field b k r (F.Part (valueStart k) (widthOf k)) f (record { allowed = y; start-is = refl; width-is = refl }),
@@ -82,18 +84,18 @@ module _ {b : List ℕ} (m : Meets b) where
     pub number-answered : (x : Number) → WritesNumberLine room k x (W.Bytes n) exit → (r : NumberAnswer) → NumberIs b k r → r ≡ B.Number x
     unfolding numberOn
     number-answered x w r f =
-        let d = line-written room exit n k (numberOn k x) _ w in
+        let d = line-written room exit n k (numberOn k x) (λ (a : List ℕ). putNumber (widthOf k) a x) w in
         let o = on-both k (numberFits (kindOf k) (widthOf k) x) (d .fits) in
         let y = allowed (record { known = omega (arith, o .0); sorted = number-sort (kindOf k) (widthOf k) x (o .1) }) in
-        let e = reads-answer b (valueStart k) (widthOf k) _ _ x (number-line-back k x room (d .fits) (d .room-is) b (rw (d .left) at stands) (field-come (o .0))) in
+        let e = reads-answer b (valueStart k) (widthOf k) (isNumeric true b (valueStart k) (widthOf k)) (numberIn b k) x (number-line-back k x room (d .fits) (d .room-is) b (rw (d .left) at stands) (field-come (o .0))) in
         unique-number-field b k r (B.Number x) f (y, sym (e .2))
 
     pub time-answered : (t : General) → WritesTimeLine room k t (W.Bytes n) exit → (r : TimeAnswer) → TimeIs b k (isLong (kindOf k)) r → r ≡ T.Time t
     unfolding timeOn
     time-answered t w r f =
         let long = isLong (kindOf k) in
-        let d = line-written room exit n k (timeOn k t) _ w in
+        let d = line-written room exit n k (timeOn k t) (λ (a : List ℕ). putGeneral (digitsOf long) a t) w in
         let o = on-both k (timeFits (kindOf k) t) (d .fits) in
         let y = allowed (record { known = omega (arith, o .0); sorted = time-sort (kindOf k) t (o .1) }) in
-        let e = reads-answer b (valueStart k) (digitsOf long + 1) _ _ t (time-line-back k t room (d .fits) (d .room-is) b (rw (d .left) at stands) (field-come (o .0))) in
+        let e = reads-answer b (valueStart k) (digitsOf long + 1) (isGeneral (digitsOf long) b (valueStart k)) (timeIn b k long) t (time-line-back k t room (d .fits) (d .room-is) b (rw (d .left) at stands) (field-come (o .0))) in
         unique-time-of b k long r (T.Time t) f (y, sym (e .2))

@@ -21,7 +21,7 @@ use Rattle.record.specs.Times.{timedAt}
 use Rattle.record.proofs.FieldLaws.{both as parts}
 use Rattle.mphr.specs.Table.{headed, timed, declared, total}
 use Rattle.mphr.specs.Table as M
-use Rattle.mphr.proofs.Export.{fine-framed, fine-valued, sized, summed}
+use Rattle.mphr.proofs.Export.{passes, fine-framed, fine-valued, sized, summed}
 use Rattle.judge.specs.Table.{Site, first, classAt, kindAt, sizeAt, offsetAt, aimAt, Sound, oneMore, next, Leads, here, on, Target, Pointer, Wrong, part-left, unknown, misplaced, bad-size, bad-times, surplus, bad-target, points-inside, points-at-other, too-few, Fault, main, at, too-long, Clean}
 use Rattle.judge.specs.declared.arrival.Extent.{Extent}
 use Rattle.judge.specs.declared.arrival.Extent.the-variants as X
@@ -36,11 +36,6 @@ use Rattle.mphr.proofs.Prefix.{same-refusal}
 use Rattle.judge.proofs.RankLaws.{class-most}
 use Rattle.demands.proofs.Accept.{no-main, not-wrong, complete-covered}
 use Rattle.judge.proofs.Covering.{complete-fine, whole-come}
-
--- a test that is not refused
-passes : (b : Bool) → (b ≡ false → ⊥) → b ≡ true
-passes true n = refl
-passes false n = absurd (n refl)
 
 clash : {b : Bool} → b ≡ true → b ≡ false → ⊥
 clash t f = true≢false (sym t ∙ f)

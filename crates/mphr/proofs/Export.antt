@@ -24,51 +24,34 @@ clean-whole l c g = c g (omega (arith, shown-most g))
 pub clean-fine : {a : List ℕ} → 3307 ≤ length a → Clean a → Fine a
 clean-fine l c g _ = clean-whole l c g
 
+-- what is not refused holds: a test, a statement that can be decided
+pub passes : (b : Bool) → (b ≡ false → ⊥) → b ≡ true
+passes true n = refl
+passes false n = absurd (n refl)
+
+holds : {P : Type 0} → Dec P → ((P → ⊥) → ⊥) → P
+holds (yes p) n = p
+holds (no d) n = absurd (n d)
+
 -- each line of a fine header has its name and a value of its kind
 pub fine-framed : {a : List ℕ} → Fine a → (k : ℕ) → k < 72 → framed a k ≡ true
-fine-framed {a} f k h = go (framed a k) refl
-  where
-    go : (b : Bool) → framed a k ≡ b → framed a k ≡ true
-    go true e = e
-    go false e = absurd (f (bad-line k h (bad-frame e)) (omega arith))
+fine-framed {a} f k h = passes (framed a k) (λ e. f (bad-line k h (bad-frame e)) (omega arith))
 
 pub fine-valued : {a : List ℕ} → Fine a → (k : ℕ) → k < 72 → valued a k ≡ true
-fine-valued {a} f k h = go (valued a k) refl
-  where
-    go : (b : Bool) → valued a k ≡ b → valued a k ≡ true
-    go true e = e
-    go false e = absurd (f (bad-line k h (bad-value e)) (omega arith))
-
-totals-valued : {a : List ℕ} → Fine a → (j : ℕ) → j < 9 → valued a (55 + j) ≡ true
-totals-valued f j h = fine-valued f (55 + j) (omega arith)
+fine-valued {a} f k h = passes (valued a k) (λ e. f (bad-line k h (bad-value e)) (omega arith))
 
 -- a fine header declares a size
 pub sized : {a : List ℕ} → Fine a → (3307 ≤ declared a) × (declared a ≤ 2147483647)
-sized {a} f = (go (decLe 3307 (declared a)), stop (decLe (declared a) 2147483647))
-  where
-    go : Dec (3307 ≤ declared a) → 3307 ≤ declared a
-    go (yes h) = h
-    go (no h) = absurd (f (bad-size (fine-valued f 28 (omega arith)) (inl (omega (arith, h)))) (omega arith))
-
-    stop : Dec (declared a ≤ 2147483647) → declared a ≤ 2147483647
-    stop (yes h) = h
-    stop (no h) = absurd (f (bad-size (fine-valued f 28 (omega arith)) (inr (omega (arith, h)))) (omega arith))
+sized {a} f =
+    let v = fine-valued f 28 (omega arith) in
+    (holds (decLe 3307 (declared a)) (λ n. f (bad-size v (inl (omega (arith, n)))) (omega arith)), holds (decLe (declared a) 2147483647) (λ n. f (bad-size v (inr (omega (arith, n)))) (omega arith)))
 
 -- and its totals add up
 pub summed : {a : List ℕ} → Fine a → Sums a
-summed {a} f = record { main = main (ℕ-discrete (total a 1) 1); second = second (decLe (total a 2) 1); all = all (ℕ-discrete (total a 0) (sum a 8)) }
+summed {a} f = record { main = holds (ℕ-discrete (total a 1) 1) (λ d. wrong (λ s. d (s .main))); second = holds (decLe (total a 2) 1) (λ d. wrong (λ s. d (s .second))); all = holds (ℕ-discrete (total a 0) (sum a 8)) (λ d. wrong (λ s. d (s .all))) }
   where
-    main : Dec (total a 1 ≡ 1) → total a 1 ≡ 1
-    main (yes e) = e
-    main (no d) = absurd (f (bad-totals (totals-valued f) (λ s. d (s .main))) (omega arith))
-
-    second : Dec (total a 2 ≤ 1) → total a 2 ≤ 1
-    second (yes e) = e
-    second (no d) = absurd (f (bad-totals (totals-valued f) (λ s. d (s .second))) (omega arith))
-
-    all : Dec (total a 0 ≡ sum a 8) → total a 0 ≡ sum a 8
-    all (yes e) = e
-    all (no d) = absurd (f (bad-totals (totals-valued f) (λ s. d (s .all))) (omega arith))
+    wrong : (Sums a → ⊥) → ⊥
+    wrong d = f (bad-totals (λ j h. fine-valued f (55 + j) (omega arith)) d) (omega arith)
 
 -- a fault of a fine header is that of its times, shown before any record
 pub fine-early : {a : List ℕ} → Fine a → (g : Fault a) → shown g ≡ 20

@@ -79,7 +79,7 @@ module _ (k : ℕ) (put : List ℕ → List ℕ) (a : List ℕ) (p : Put k put a
     line-framed =
         let i = lineStart k in
         let w = widthOf k in
-        let n : named b k ≡ true = sym (line.name-yes b k i 30 refl (λ j l. stands .byte j (omega arith) ∙ early j (omega arith) ∙ frame-name k w a (p .room) j l) refl) in
+        let n : named b k ≡ true = sym (line.name-yes b k i 30 refl refl (λ j l. stands .byte j (omega arith) ∙ early j (omega arith) ∙ frame-name k w a (p .room) j l)) in
         let q : getD b (i + 30) 0 ≡ 61 = stands .byte 30 (omega arith) ∙ early 30 (omega arith) ∙ frame-equals k w a (p .room) in
         let s : getD b (i + 31) 0 ≡ 32 = stands .byte 31 (omega arith) ∙ early 31 (omega arith) ∙ frame-space k w a (p .room) in
         let e : i + 32 + w ≡ i + (32 + w) = omega arith in

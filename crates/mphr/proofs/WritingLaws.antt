@@ -169,13 +169,15 @@ unfolding putFrame
 frame-length k w a = simp length-set (name-length a k 30)
 
 module _ (k w : ℕ) (a : List ℕ) (room : w + 33 ≤ length a) where
-  pub frame-name : (j : ℕ) → j < 30 → getD (putFrame k w a) j 0 ≡ getD names (30 * k + j) 0
+  other : (j : ℕ) → (j ≡ 30 → ⊥) → (j ≡ 31 → ⊥) → (j ≡ 32 + w → ⊥) → getD (putFrame k w a) j 0 ≡ getD (putName a k 30) j 0
   unfolding putFrame
-  frame-name j h =
-      getD-set-other (set (set (putName a k 30) 30 61) 31 32) (32 + w) j 10 0 (λ e. omega arith)
-      ∙ getD-set-other (set (putName a k 30) 30 61) 31 j 32 0 (λ e. omega arith)
-      ∙ getD-set-other (putName a k 30) 30 j 61 0 (λ e. omega arith)
-      ∙ name-bytes a k 30 j (omega arith) h
+  other j x y z =
+      getD-set-other (set (set (putName a k 30) 30 61) 31 32) (32 + w) j 10 0 z
+      ∙ getD-set-other (set (putName a k 30) 30 61) 31 j 32 0 y
+      ∙ getD-set-other (putName a k 30) 30 j 61 0 x
+
+  pub frame-name : (j : ℕ) → j < 30 → getD (putFrame k w a) j 0 ≡ getD names (30 * k + j) 0
+  frame-name j h = other j (λ e. omega arith) (λ e. omega arith) (λ e. omega arith) ∙ name-bytes a k 30 j (omega arith) h
 
   pub frame-equals : getD (putFrame k w a) 30 0 ≡ 61
   unfolding putFrame
@@ -195,12 +197,7 @@ module _ (k w : ℕ) (a : List ℕ) (room : w + 33 ≤ length a) where
   frame-feed = getD-set-same (set (set (putName a k 30) 30 61) 31 32) (32 + w) 10 0 (simp length-set (omega (arith, name-length a k 30)))
 
   pub frame-kept : (j : ℕ) → 32 + w < j → getD (putFrame k w a) j 0 ≡ getD a j 0
-  unfolding putFrame
-  frame-kept j h =
-      getD-set-other (set (set (putName a k 30) 30 61) 31 32) (32 + w) j 10 0 (λ e. omega arith)
-      ∙ getD-set-other (set (putName a k 30) 30 61) 31 j 32 0 (λ e. omega arith)
-      ∙ getD-set-other (putName a k 30) 30 j 61 0 (λ e. omega arith)
-      ∙ name-kept a k 30 j (omega arith)
+  frame-kept j h = other j (λ e. omega arith) (λ e. omega arith) (λ e. omega arith) ∙ name-kept a k 30 j (omega arith)
 
 -- ---- the three answers of a writer of n bytes, which are m
 module _ (room : List ℕ) (n m : ℕ) (e : n ≡ m) (right : Bool) (new : List ℕ) where
@@ -252,29 +249,17 @@ pub time-fits : (d : Kind) (t : General) → timeFits d t ≡ true → fitsGener
 time-fits d t e = and-true (leb 4 (codeOf d)) (fitsGeneral (isLong d) t) (sym (time-by d t) ∙ e) .1
 
 -- a time's field is as wide as its text: one test over the 72
-wide : Kind → ℕ → Bool
-wide Text w = true
-wide Unsigned w = true
-wide Count w = true
-wide Signed w = true
-wide Time w = eqb w 15
-wide LongTime w = eqb w 18
+abbrev isWide : ℕ → Bool
+isWide k = cond (leb 4 (codeOf (kindOf k))) (eqb (digitsOf (isLong (kindOf k)) + 1) (widthOf k)) true
 
-all-wide : T (below (λ (k : ℕ). wide (kindOf k) (widthOf k)) 72)
-unfolding wide kindOf kinds widthOf widths fields
+all-wide : T (below isWide 72)
+unfolding isLong kindOf kinds widthOf widths fields
 all-wide = tt
 
-wide-is : (d : Kind) (w : ℕ) (t : General) → T (wide d w) → timeFits d t ≡ true → digitsOf (isLong d) + 1 ≡ w
-unfolding wide timeFits isLong
-wide-is Text w t h e = absurd (true≢false (sym e))
-wide-is Unsigned w t h e = absurd (true≢false (sym e))
-wide-is Count w t h e = absurd (true≢false (sym e))
-wide-is Signed w t h e = absurd (true≢false (sym e))
-wide-is Time w t h e = sym (eqb→eq w 15 h)
-wide-is LongTime w t h e = sym (eqb→eq w 18 h)
-
 pub time-wide : (k : ℕ) (t : General) → k < 72 → timeFits (kindOf k) t ≡ true → digitsOf (isLong (kindOf k)) + 1 ≡ widthOf k
-time-wide k t h e = wide-is (kindOf k) (widthOf k) t (at (λ (k : ℕ). wide (kindOf k) (widthOf k)) 72 all-wide k h) e
+time-wide k t h e =
+    let u = and-true (leb 4 (codeOf (kindOf k))) (fitsGeneral (isLong (kindOf k)) t) (sym (time-by (kindOf k) t) ∙ e) .0 in
+    eqb→eq _ _ (rw u at (at isWide 72 all-wide k h))
 
 -- ---- the value, written into the room from byte 32 on
 mid-all : (xs : List ℕ) → 32 ≤ length xs → midOf 32 (length xs - 32) xs ≡ drop 32 xs

@@ -37,7 +37,7 @@ use Rattle.mphr.specs.Layout.{fields, widths, kinds, widthOf, kindOf, lineStart
 use Rattle.mphr.specs.Table.{headed, valued, bad-header, bad-times}
 use Rattle.mphr.specs.declared.layout.Place.{Place}
 use Rattle.mphr.proofs.LayoutLaws.{start-72, start-next, start-mono}
-use Rattle.mphr.proofs.Export.{clean-fine, fine-valued}
+use Rattle.mphr.proofs.Export.{passes, clean-fine, fine-valued}
 use Rattle.judge.specs.Table as J
 use Rattle.judge.specs.Table.{Site, site, first, classAt, sizeAt, Sound, Leads, here, on, next, oneMore, unknown, bad-times as bad-times-at, main, Clean, Given, Open, Judged}
 use Rattle.query.specs.Query.{refusalOf, StartOf, Reachable, mainPart, sortOf, timesOf, numbers, FieldOf, Denied, faulty, short, no-field, Allowed, valueStart, PartIs, FieldIs, noField, numberIn, NumberIs, timeIn, latitudeField, thousand, degrees, pointOf, PointFound, PointIs, Exact}
@@ -106,10 +106,6 @@ pub walking-last : {a : List ℕ} {k n i : ℕ} → Walking a k n i → k ≤ n 
 walking-last {n = n} {i = i} w h = inr (record { spot = site n i (w .prev) (w .tally); way = w .way; numbered = omega (arith, w .upto); begins = refl })
 
 -- ---- the header of record k
-not-false-is : (b : Bool) → (b ≡ false → ⊥) → b ≡ true
-not-false-is true n = refl
-not-false-is false n = absurd (n refl)
-
 lead-at : (a : List ℕ) (i : ℕ) → isClass (classAt a i) && isGroup (getD a (i + 1) 0) ≡ true → 20 ≤ sizeAt a i → isLead (getD a i 0) (getD a (i + 1) 0) (beAt a (i + 4) 4) ≡ true
 unfolding isLead
 lead-at a i k l =
@@ -141,8 +137,8 @@ module _ {a : List ℕ} (clean : Clean a) where
     come = omega arith;
     header =
         header-is a 0
-        (main-lead a (not-false-is (headed a) (λ e. clean (main (bad-header e)) (omega arith))))
-        (not-false-is (timedAt a 0) (λ e. clean (main (bad-times e)) (omega arith)));
+        (main-lead a (passes (headed a) (λ e. clean (main (bad-header e)) (omega arith))))
+        (passes (timedAt a 0) (λ e. clean (main (bad-times e)) (omega arith)));
   }
 
   later-headed : {x : Site} → 3307 ≤ length a → Leads a first x → Sound a (x .at) → x .at + 20 ≤ length a → Headed a (x .at)
@@ -152,8 +148,8 @@ module _ {a : List ℕ} (clean : Clean a) where
         come = l;
         header =
             header-is a (x .at)
-            (lead-at a (x .at) (not-false-is _ (λ e. clean (J.at f x w (unknown (s .room) e)) l)) (s .least))
-            (not-false-is (timedAt a (x .at)) (λ e. clean (J.at f x w (bad-times-at (s .room) e)) l));
+            (lead-at a (x .at) (passes _ (λ e. clean (J.at f x w (unknown (s .room) e)) l)) (s .least))
+            (passes (timedAt a (x .at)) (λ e. clean (J.at f x w (bad-times-at (s .room) e)) l));
       }
 
   reach-come : {k : ℕ} → Reachable a k → 3307 ≤ length a

@@ -62,7 +62,7 @@ loop-again : tie.Need-loop-again Inv-loop μ-loop
 loop-again c = let l = c .before .before .before in let b = l .before .before .before in (omega arith, ten-more (b .args .s .now) (b .args .table .now) (b .args .k) (b .args .at) (l .loop .i) (b .pre .1) (b .pre .3) (l .loop .inv .1) (c .before .is-alike .ensures .good (not-false (c .before .is-alike .result) (c .if1 .left))))
 
 returns-2 : tie.Need-returns-2 Inv-loop μ-loop
-returns-2 c = let b = c .before .before .before .before in name-yes (b .args .s .now) (b .args .k) (b .args .at) (10 * c .before .loop .i) (b .pre .1) (c .before .loop .inv .1) (omega arith)
+returns-2 c = let b = c .before .before .before .before in name-yes (b .args .s .now) (b .args .k) (b .args .at) (10 * c .before .loop .i) (b .pre .1) (omega arith) (c .before .loop .inv .1)
 
 pub is-named-spec : {M : Type 1} → statement M
 is-named-spec =

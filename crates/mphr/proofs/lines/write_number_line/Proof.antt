@@ -24,9 +24,6 @@ fits : (c : tie.After-enum-told) → (c .before .before .before .before .before 
 unfolding numberOn
 fits c = on-both (c .before .before .before .before .before .before .before .before .args .k) _ (begun (line (c .before .before .before .before)) _ (c .enum-told .given .1) .fits)
 
-room : (c : tie.After-enum-told) → widthOf (c .before .before .before .before .before .before .before .before .args .k) + 33 ≤ length (c .before .before .before .before .begin-line .last .0)
-room c = begun-room (line (c .before .before .before .before)) _ (c .enum-told .given .1)
-
 number-on-requires : tie.Need-number-on-requires
 number-on-requires c κs = search needs
 
@@ -47,10 +44,10 @@ returns : tie.Need-returns
 returns c = line-refused (line (c .before .before .before .before)) _ (c .enum-told2 .given .1)
 
 sub-write-number : tie.Need-sub-write-number
-sub-write-number c = omega (arith, room c)
+sub-write-number c = omega (arith, begun-room (line (c .before .before .before .before)) _ (c .enum-told .given .1))
 
 part-write-number-start : tie.Need-part-write-number-start
-part-write-number-start c = omega (arith, room c)
+part-write-number-start c = omega (arith, begun-room (line (c .before .before .before .before)) _ (c .enum-told .given .1))
 
 part-write-number-end : tie.Need-part-write-number-end
 part-write-number-end c = search needs

@@ -23,9 +23,6 @@ fits : (c : tie.After-enum-told) → (c .before .before .before .before .before 
 unfolding textOn
 fits c = on-both (c .before .before .before .before .before .before .before .before .before .args .k) _ (begun (line (c .before .before .before .before)) _ (c .enum-told .given .1) .fits)
 
-room : (c : tie.After-enum-told) → widthOf (c .before .before .before .before .before .before .before .before .before .args .k) + 33 ≤ length (c .before .before .before .before .begin-line .last .0)
-room c = begun-room (line (c .before .before .before .before)) _ (c .enum-told .given .1)
-
 text-on-requires : tie.Need-text-on-requires
 text-on-requires c κs = search needs
 
@@ -46,10 +43,10 @@ returns : tie.Need-returns
 returns c = line-refused (line (c .before .before .before .before)) _ (c .enum-told2 .given .1)
 
 sub-write-text : tie.Need-sub-write-text
-sub-write-text c = omega (arith, room c)
+sub-write-text c = omega (arith, begun-room (line (c .before .before .before .before)) _ (c .enum-told .given .1))
 
 part-write-text-start : tie.Need-part-write-text-start
-part-write-text-start c = omega (arith, room c)
+part-write-text-start c = omega (arith, begun-room (line (c .before .before .before .before)) _ (c .enum-told .given .1))
 
 part-write-text-end : tie.Need-part-write-text-end
 part-write-text-end c = search needs

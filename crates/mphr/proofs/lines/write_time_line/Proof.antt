@@ -24,9 +24,6 @@ fits : (c : tie.After-enum-told) → (c .before .before .before .before .before 
 unfolding timeOn
 fits c = on-both (c .before .before .before .before .before .before .before .before .args .k) _ (begun (line (c .before .before .before .before)) _ (c .enum-told .given .1) .fits)
 
-room : (c : tie.After-enum-told) → widthOf (c .before .before .before .before .before .before .before .before .args .k) + 33 ≤ length (c .before .before .before .before .begin-line .last .0)
-room c = begun-room (line (c .before .before .before .before)) _ (c .enum-told .given .1)
-
 time-on-requires : tie.Need-time-on-requires
 time-on-requires c κs = search needs
 
@@ -47,10 +44,10 @@ returns : tie.Need-returns
 returns c = line-refused (line (c .before .before .before .before)) _ (c .enum-told2 .given .1)
 
 sub-write-general : tie.Need-sub-write-general
-sub-write-general c = omega (arith, room c)
+sub-write-general c = omega (arith, begun-room (line (c .before .before .before .before)) _ (c .enum-told .given .1))
 
 part-write-general-start : tie.Need-part-write-general-start
-part-write-general-start c = omega (arith, room c)
+part-write-general-start c = omega (arith, begun-room (line (c .before .before .before .before)) _ (c .enum-told .given .1))
 
 part-write-general-end : tie.Need-part-write-general-end
 part-write-general-end c = search needs

@@ -1,17 +1,17 @@
 -- What the judge above takes from the main header: 3,307 bytes show all of its faults; a header with none of 1 to 5 has values of their
 -- kinds, a size and totals, which text's number reader gives; its only fault can be that of its times. Assumes nothing.
-use mathlib.Core.Path.{_≡_, refl, sym, ap, _∙_}
+use mathlib.Core.Path.{_≡_, refl}
 use mathlib.Core.Bool.{Bool, true, false}
-use mathlib.Core.Logic.{_⊎_, inl, inr}
+use mathlib.Core.Logic.{inl, inr}
 use mathlib.Core.List.{List}
 use Prim.Native.Nat.{ℕ, _+_, _*_, _≤_, _<_}
 use native.Mathlib.Omega.{arith}
-use native.Mathlib.Decide.{ℕ-discrete, decLe, decLt}
-use lib.ListN.{length, getD}
-use Rattle.mphr.specs.Table.{headed, timed, framed, valued, declared, total, sum, Sums, bad-frame, bad-value, Fault, bad-header, bad-line, bad-size, bad-totals, bad-times, row, number, place, shown, Given, Clean, Fine}
+use native.Mathlib.Decide.{ℕ-discrete, decLe}
+use lib.ListN.{length}
+use Rattle.mphr.specs.Table.{framed, valued, declared, total, sum, Sums, bad-frame, bad-value, Fault, bad-header, bad-line, bad-size, bad-totals, bad-times, shown, Clean, Fine}
 use Rattle.calendar.specs.Said.{answer}
 use lib.IntN.{pos}
-use Rattle.text.specs.Field.{isNumber, isValue, numberReadAt}
+use Rattle.text.specs.Field.{isValue, numberReadAt}
 use Rattle.text.specs.declared.Number.the-variants as N
 use Rattle.text.proofs.Exact.{count-read}
 use Rattle.mphr.proofs.LineLaws.{size-number, total-number}

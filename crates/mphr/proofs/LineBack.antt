@@ -2,13 +2,13 @@
 -- the value reads back. The frame's bytes are the layout's; the value's field is alike with what its writer wrote. Said once over a writer of values
 -- that keeps to its field (`Put`), which those of text, numbers and times are. Assumes nothing.
 use mathlib.Core.Path.{_≡_, refl, sym, ap, _∙_}
-use mathlib.Core.Bool.{Bool, true, false, _&&_, true≢false}
-use mathlib.Core.List.{List, _++_}
-use Prim.Native.Nat.{ℕ, suc, _+_, _-_, _*_, _≤_, _<_}
+use mathlib.Core.Bool.{Bool, true, false, true≢false}
+use mathlib.Core.List.{List}
+use Prim.Native.Nat.{ℕ, _+_, _-_, _≤_, _<_}
 use native.Mathlib.Omega.{arith}
 use borrow.Author.Tests.{eq-eqb}
 use lib.Dec.{leb}
-use lib.ListN.{length, getD, take, drop, length-append, length-drop, List·getD-append}
+use lib.ListN.{length, getD, take, drop, length-drop, List·getD-append}
 use lib.Seq.{getD-drop, getD-take, getD-append-add, length-take-le, ext-getD}
 use Rattle.calendar.specs.Said.{answer}
 use Rattle.meter.specs.General.{digitsOf, isGeneral, generalAt, generalReadAt, fitsGeneral, putGeneral}
@@ -19,7 +19,7 @@ use Rattle.meter.proofs.ReadsBack.{reads-answer}
 use Rattle.meter.proofs.GeneralWrite.{width-low, general-back, general-kept, general-length}
 use Rattle.meter.proofs.WriterLaws.{Done, done, beyond}
 use Rattle.text.specs.Field.{isValue, numberReadAt}
-use Rattle.text.specs.Writing.{fitsNumber, putNumber, fitsText, putText}
+use Rattle.text.specs.Writing.{fitsNumber, putNumber, putText}
 use Rattle.text.specs.declared.Kind.{Kind}
 use Rattle.text.specs.declared.Kind.the-variants.{Text, Unsigned, Count, Signed, Time, LongTime}
 use Rattle.text.specs.declared.Number.{Number}
@@ -27,7 +27,7 @@ use Rattle.text.specs.declared.Number.the-variants as N
 use Rattle.text.proofs.Alike.{Alike, value-alike, read-alike, general-read-alike}
 use Rattle.text.proofs.Back.{number-back, number-valued, count-valued, number-kept, number-length, text-valued, text-kept}
 use Rattle.text.proofs.Laws.{text-wide, fits-some}
-use Rattle.mphr.specs.Layout.{names, nameOf, widthOf, kindOf, lineStart}
+use Rattle.mphr.specs.Layout.{nameOf, widthOf, kindOf, lineStart}
 use Rattle.mphr.specs.Table.{named, framed, valued}
 use Rattle.mphr.specs.Lines.{textFits, numberFits, timeFits, isLong, textOn, numberOn, timeOn, putFrame, putLine, WritesLine, WritesTextLine, WritesNumberLine, WritesTimeLine, WritesName}
 use Rattle.mphr.proofs.LineLaws as line

@@ -1,8 +1,8 @@
 -- The laws of the name table: by one test that antt computes over its 2,160 bytes each entry is letters and then spaces and no two are equal; the
 -- entries are the layout's names, padded; so a name is found, and has one place. By induction on the entries. Assumes nothing.
 use mathlib.Core.Path.{_≡_, refl, sym, ap, _∙_, subst}
-use mathlib.Core.Bool.{Bool, true, false, not, cond, _&&_, _||_, true≢false}
-use mathlib.Core.List.{List, [], _∷_, _++_, map}
+use mathlib.Core.Bool.{Bool, true, false, not, cond, _&&_, true≢false}
+use mathlib.Core.List.{List, [], _∷_, map}
 use Prim.Native.Nat.{ℕ, zero, suc, _+_, _-_, _*_, _≤_, _<_}
 use native.Mathlib.Nat.{not-suc-le-zero, le-of-suc-le-suc, zero-add, mul-suc, add-zero, suc-add, add-suc}
 use native.Mathlib.Numerals.{add-one}

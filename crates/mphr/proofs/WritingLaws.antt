@@ -9,10 +9,10 @@ use native.Mathlib.Omega.{arith}
 use borrow.Author.Tests.{le-leb, lt-leb, leb-true, eq-eqb, ne-eqb, eqb-true}
 use borrow.Rule.Slice.PartMut.{midOf, postOf, putMid, post-is}
 use lib.Dec.{T, leb, ltb, eqb, eqb→eq}
-use lib.IntN.{ℤ, pos, negsuc}
+use lib.IntN.{pos, negsuc}
 use lib.ListN.{length, getD, set, take, drop, length-set, length-drop, length-append, List·getD-append}
 use lib.Seq.{getD-set-same, getD-set-other, getD-append-add, getD-drop, ext-getD, take-all, drop-length}
-use Rattle.calendar.specs.Said.{Said, answer, refusal, refused}
+use Rattle.calendar.specs.Said.{answer, refusal, refused}
 use Rattle.calendar.specs.declared.Refusal.{Refusal}
 use Rattle.calendar.proofs.Range.{below, at}
 use Rattle.meter.specs.Lent.{wrote, saidWritten}

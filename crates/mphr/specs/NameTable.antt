@@ -1,7 +1,7 @@
 -- THE NAME TABLE (01, "MPHR": "The name table holds all 72 times 30 bytes; one statement over the whole of it says that each entry is capitals,
 -- digits or underscores and then spaces, and that no two are equal"): that statement, a test of the table's bytes. Assumes nothing.
 use Prim.Native.Nat.{ℕ, zero, suc}
-use mathlib.Core.Bool.{Bool, true, false, not, cond, _&&_, _||_}
+use mathlib.Core.Bool.{Bool, true, not, cond, _&&_, _||_}
 use mathlib.Core.List.{List, [], _∷_}
 use lib.Dec.{eqb, leb}
 use lib.ListN.{length, getD, take, drop}

@@ -4,7 +4,8 @@ use text::Kind;
 ghost use mathlib.Core.Path.{_≡_};
 ghost use Prim.Native.Nat.{_≤_, _<_};
 ghost use lib.ListN.{getD};
-ghost use Rattle.mphr.specs.Layout.{names, widths, codeOf, kindFrom, codes, widthOf, kindOf, lineStart, fieldOf, saidPlace, LineAfter};
+ghost use Rattle.mphr.specs.Layout.{names, widths, codeOf, kindFrom, codes, widthOf, kindOf, lineStart};
+ghost use Rattle.mphr.specs.Layout.{fieldOf, saidPlace, LineAfter};
 
 // A field: where its line starts, how wide its value is, and of which kind.
 pub struct Place {

@@ -2,8 +2,8 @@
 -- writer's by its promise (mphr's LineBack); of a product no fault of the main header is shown; one answer fits. Assumes nothing.
 use Prim.Native.Nat.{ℕ, _+_, _≤_, _<_}
 use native.Mathlib.Omega.{arith}
-use mathlib.Core.Path.{_≡_, refl, sym, ap, _∙_}
-use mathlib.Core.Bool.{Bool, true, false, true≢false}
+use mathlib.Core.Path.{_≡_, refl, sym, ap}
+use mathlib.Core.Bool.{true, true≢false}
 use mathlib.Core.List.{List}
 use lib.ListN.{length, take, drop, take-append-drop}
 use Rattle.meter.specs.General.{digitsOf, isGeneral, putGeneral}

@@ -3,7 +3,7 @@
 use native.Mathlib.Omega.{arith}
 use borrow.Author.Tests.{not-true, not-false}
 use mathlib.Core.Path.{_≡_, refl, ap, _∙_}
-use Prim.Native.Nat.{ℕ, _+_, _*_, _-_, _≤_, _<_}
+use Prim.Native.Nat.{_*_, _-_, _≤_}
 use lib.ListN.{length}
 use Rattle.mphr.specs.Layout.{fields, rows, names}
 use Rattle.mphr.specs.Turning.{Alike}
@@ -11,9 +11,6 @@ use Rattle.mphr.proofs.AlikeLaws.{ten-more, not-named}
 use Rattle.mphr.proofs.LineLaws.{name-yes}
 use Rattle.mphr.proofs.faults.is_named.Statement.{statement}
 use Rattle.mphr.proofs.faults.is_named.Tie as tie
-use Rattle.mphr.proofs.faults.is_named.Reads as reads
-use Rattle.mphr.proofs.faults.is_named.Lts as lts
-use Rattle.mphr.proofs.faults.is_alike.Reads as is-alike-reads
 
 abbrev Inv-loop : tie.InvT-loop
 Inv-loop s table k at i₀ i = (i ≤ 3) × Alike s names at (30 * k) (10 * i)

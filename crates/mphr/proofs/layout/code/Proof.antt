@@ -1,5 +1,4 @@
 -- `mphr::layout::code` meets its contract: the const array is the numbers of the layout's kinds, by one computed test. Assumes nothing.
-use mathlib.Core.Path.{refl}
 use Rattle.mphr.specs.Layout.{fields, kinds, codes}
 use Rattle.mphr.proofs.LayoutLaws.{code-at}
 use borrow.Author.Needs.{needs}

@@ -2,7 +2,6 @@
 use denote.Ref.{now}
 use Prim.Native.Nat.{ℕ, _+_}
 use mathlib.Core.Path.{refl, ap, _∙_}
-use mathlib.Core.List.{List}
 use borrow.Author.Tests.{not-true, not-false}
 use Rattle.mphr.specs.Layout.{widthOf}
 use Rattle.mphr.specs.Lines.{putFrame}

@@ -1,12 +1,12 @@
 -- `mphr::lines::write_time_line` meets its contract: the line is begun, then refused or ended by its value (WritingLaws). Assumes nothing.
 use denote.Ref.{now}
-use Prim.Native.Nat.{ℕ, _+_, _-_, _≤_, _<_}
+use Prim.Native.Nat.{ℕ, _+_, _-_, _<_}
 use native.Mathlib.Omega.{arith}
 use mathlib.Core.Path.{_≡_, sym, ap, _∙_}
 use mathlib.Core.Bool.{Bool, true}
 use mathlib.Core.List.{List}
 use lib.ListN.{length}
-use Rattle.mphr.specs.Layout.{widthOf, kindOf}
+use Rattle.mphr.specs.Layout.{kindOf}
 use borrow.Rule.Slice.PartMut.{midOf}
 use Rattle.meter.specs.Lent.{wrote}
 use Rattle.meter.specs.General.{digitsOf, fitsGeneral, putGeneral}

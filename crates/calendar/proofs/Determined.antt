@@ -20,12 +20,12 @@ abbrev pub unsaidDay : Said ℕ → DayNumber
 unsaidDay (answer n) = D.Day n
 unsaidDay (refusal n p) = D.Refused (refusing n p)
 
-pub day-back : (r : DayNumber) → unsaidDay (saidDay r) ≡ r
-day-back (D.Day n) = refl
-day-back (D.Refused r) = refl
+pub day-unsaid : (r : DayNumber) → unsaidDay (saidDay r) ≡ r
+day-unsaid (D.Day n) = refl
+day-unsaid (D.Refused r) = refl
 
 pub unique-day-number : (x : Date) (r s : DayNumber) → saidDay r ≡ dayNumberOf x → saidDay s ≡ dayNumberOf x → r ≡ s
-unique-day-number x r s p q = fixes saidDay unsaidDay day-back (dayNumberOf x) r s p q
+unique-day-number x r s p q = fixes saidDay unsaidDay day-unsaid (dayNumberOf x) r s p q
 
 pub unique-is-date : (x : Date) (r s : Bool) → r ≡ isDate x → s ≡ isDate x → r ≡ s
 unique-is-date x r s p q = only (isDate x) r s p q

@@ -72,7 +72,7 @@ first-test = tt
 first-is : (c : ℕ) → c ≤ 8 → getD (first .tally) c 0 ≡ cond (eqb 1 c) 1 0
 first-is c h = eqb→eq (getD (first .tally) c 0) (cond (eqb 1 c) 1 0) (R.at firstTest 9 first-test c (omega arith))
 
-first-class : (a : List ℕ) → headed a ≡ true → class a 0 ≡ 1
+pub first-class : (a : List ℕ) → headed a ≡ true → class a 0 ≡ 1
 unfolding headed
 first-class a e =
     let p = parts (eqb (getD a 0 0) 1 && (eqb (getD a 1 0) 0 && eqb (getD a 2 0) 0)) (eqb (beAt a 4 4) 3307) e in

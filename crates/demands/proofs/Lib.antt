@@ -6,3 +6,4 @@ pub mod Counting
 pub mod Demands
 pub mod Example
 pub mod MarkedCases
+pub mod ProductLaws

@@ -22,7 +22,8 @@ pub record MainHeader (a : List ℕ) : Type 0 where
   pub most : declared a ≤ 2147483647
   pub sums : Sums a
 
--- of the record at byte i: "class 0, instrument group 1, subclass 2, .. record size 4..7"; class, group and subclass, three bytes, are its kind
+-- of the record at byte i: "class 0, instrument group 1, subclass 2, .. record size 4..7"; class, group and subclass, three bytes, are its kind: of
+-- bytes, which are below 256, equal kinds are three equal bytes (proofs/ProductLaws.antt)
 abbrev pub class : List ℕ → ℕ → ℕ
 class a i = getD a i 0
 

@@ -6,7 +6,7 @@ use mathlib.Core.List.{List}
 use lib.IntN.{ℤ}
 use lib.Ieee.{Float}
 use Rattle.calendar.specs.declared.Date.{Date}
-use Rattle.meter.specs.General.{WritesText}
+use Rattle.meter.specs.General.{WritesTimeText}
 use Rattle.meter.specs.Reading.{readingOf, saidReading}
 use Rattle.meter.specs.Scaled.{WritesScaled}
 use Rattle.meter.specs.Time.{WritesTime}
@@ -58,7 +58,7 @@ pub unique-wl-write-time : (room : List ℕ) (t : Time) (p q n m : List ℕ) →
 unique-wl-write-time room t p q n m = two-told (λ (e : List ℕ) (r : Written). WritesTime room t r e) p q (λ r s. M.unique-write-time room t r s p q)
 
 pub unique-wl-time-text : (room : List ℕ) (t : Time) (p q n m : List ℕ) → TimeTextTold room t p n → TimeTextTold room t q m → (p ≡ q) × (n ≡ m)
-unique-wl-time-text room t p q n m = two-told (λ (e : List ℕ) (r : Written). WritesText room t r e) p q (λ r s. M.unique-time-text room t r s p q)
+unique-wl-time-text room t p q n m = two-told (λ (e : List ℕ) (r : Written). WritesTimeText room t r e) p q (λ r s. M.unique-time-text room t r s p q)
 
 pub unique-wl-write-scaled : (room : List ℕ) (width signed : ℕ) (x : Scaled) (p q n m : List ℕ) → WriteScaledTold room width signed x p n → WriteScaledTold room width signed x q m → (p ≡ q) × (n ≡ m)
 unique-wl-write-scaled room width signed x p q n m =

@@ -3,7 +3,7 @@ use Prim.Native.Nat.{ℕ}
 use mathlib.Core.Path.{_≡_}
 use mathlib.Core.List.{List}
 use Rattle.meter.specs.Time.{timeReadAt, saidTime, compared, saidOrder, WritesTime}
-use Rattle.meter.specs.General.{textTimeAt, WritesText}
+use Rattle.meter.specs.General.{textTimeAt, WritesTimeText}
 use Rattle.meter.specs.declared.integer.Written.{Written}
 use Rattle.meter.specs.declared.time.Order.{Order}
 use Rattle.meter.specs.declared.time.Order.the-variants as O
@@ -42,4 +42,4 @@ abbrev pub WriteTimeTold : List ℕ → Time → List ℕ → List ℕ → Type 
 WriteTimeTold room t exit numbers = Told (λ (r : Written). WritesTime room t r exit) writtenSaid numbers
 
 abbrev pub TimeTextTold : List ℕ → Time → List ℕ → List ℕ → Type 0
-TimeTextTold room t exit numbers = Told (λ (r : Written). WritesText room t r exit) writtenSaid numbers
+TimeTextTold room t exit numbers = Told (λ (r : Written). WritesTimeText room t r exit) writtenSaid numbers

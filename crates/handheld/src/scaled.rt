@@ -1,4 +1,5 @@
 // Scaled numbers: read, written, rounded, and as a meter shows them.
+use meter::integer::bits_of;
 use meter::scaled::Decimal;
 use meter::scaled::Reading;
 use meter::scaled::Rounded;
@@ -6,7 +7,6 @@ use meter::scaled::Scaled;
 use meter::scaled::ScaledRead;
 use meter::scaled::Shown;
 use told::given::is_set;
-use told::put::bits_of;
 use told::put::put_one;
 use told::put::put_written;
 use told::put::put4;

@@ -17,8 +17,6 @@ use crate::stretch::longer;
 use crate::stretch::no_stretch;
 use calendar::Refusal;
 use mphr::faults::HeaderFault;
-use text::Number;
-use text::NumberRead;
 ghost use mathlib.Core.Path.{_≡_};
 ghost use Prim.Native.Nat.{_+_, _*_, _^_, _≤_, _<_};
 ghost use lib.ListN.{length};
@@ -68,16 +66,7 @@ pub enum Turned {
 pub(crate) fn count_at(s: &[u8], at: usize, width: usize) -> usize
     ensures { λ r. ⌜ (CountAt (now (s .entry)) at width → r ≡ numberOf (now (s .entry)) at width) ⌝ }
 {
-    let NumberRead::Number(n) = text::read_number(s, at, width, false) else {
-        return 0;
-    };
-    let Number::Whole(z) = n else {
-        return 0;
-    };
-    if z < 0 {
-        return 0;
-    }
-    z as usize
+    text::count_at(s, at, width) as usize
 }
 
 // D, the size that the product declares.

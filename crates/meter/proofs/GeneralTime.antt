@@ -25,6 +25,7 @@ use Rattle.meter.specs.General.{each, isNone, isDigits, momentAt, lastSe
 use Rattle.meter.proofs.GeneralRuns.{and-true, Digits, each-in, digits-same, whole-is, wholeOf}
 use Rattle.meter.proofs.GeneralWrite.{Bounds, moment-bounds, moment-digits, moment-zed, moment-back, general-back}
 use Rattle.meter.proofs.GeneralCode.{text-answer}
+use Rattle.meter.proofs.TimeLaws.{InDays}
 
 -- ---- the clock
 -- THE MILLISECOND OF A MOMENT, and back
@@ -86,11 +87,6 @@ text-written room time g r b t e f p = (
 )
 
 -- ---- TIME TO TEXT TO TIME
--- the day of a time that is defined is one of 65,536
-abbrev pub InDays : Time → Type 0
-InDays T.Undefined = Unit
-InDays (T.At d m) = d < 65536
-
 of-date : (d m : ℕ) → momentOf d m .date ≡ dateOf d
 unfolding momentOf
 of-date d m = refl

@@ -11,3 +11,4 @@ pub mod GeneralCode
 pub mod GeneralTime
 pub mod GeneralOrder
 pub mod Determined
+pub mod WriterLaws

@@ -18,7 +18,7 @@ use Rattle.calendar.specs.Said.{Said, answer, refusal}
 use Rattle.meter.specs.Lent.{inside, reads}
 use Rattle.meter.specs.Integer.{beAt, stored, twos, wordOf, isWidth, topOf, halfOf, fitsUnsigned, fitsSigned, unsignedAt, signedAt}
 use Rattle.meter.specs.Time.{isTime, bitsOf, timeOf, timeAt, timeReadAt}
-use Rattle.meter.specs.Scaled.{isScale, lowest, highest, noneOf, same, integerOf, isNone, isDefined, scaledReadAt, fitsNumber, fitsScaled, putScaled}
+use Rattle.meter.specs.Scaled.{isScale, lowest, highest, noneOf, same, integerOf, isNone, isDefined, scaledReadAt, fitsDefined, fitsScaled, putScaled}
 use Rattle.meter.specs.declared.time.Time.{Time}
 use Rattle.meter.specs.declared.time.Time.the-variants as T
 use Rattle.meter.specs.declared.scaled.Scaled.{Scaled}
@@ -116,8 +116,8 @@ both : (x y : Bool) → x && y ≡ true → (x ≡ true) × (y ≡ true)
 both true y e = (refl, e)
 both false y e = absurd (true≢false (sym e))
 
-number-back : (signed : Bool) (n : ℕ) (a : List ℕ) (i s : ℤ) → 1 + n ≤ length a → isWidth n ≡ true → fitsNumber signed n i s ≡ true → scaledReadAt signed n (putScaled signed n a (S.Number i s)) 0 ≡ answer (S.Number i s)
-unfolding fitsNumber
+number-back : (signed : Bool) (n : ℕ) (a : List ℕ) (i s : ℤ) → 1 + n ≤ length a → isWidth n ≡ true → fitsDefined signed n i s ≡ true → scaledReadAt signed n (putScaled signed n a (S.Number i s)) 0 ≡ answer (S.Number i s)
+unfolding fitsDefined
 number-back signed n a i s h w g =
     let W = wide-of n w in
     let L = leZ (lowest signed n) i && leZ i (highest signed n) in
@@ -140,9 +140,9 @@ scaled-back signed n a S.Undefined f h =
     let v = wordOf (noneOf signed n) in
     let e : integerOf signed n (beAt (stored (stored a 0 1 0) 1 n v) 1 n) ≡ noneOf signed n = ap (integerOf signed n) (parts-word signed n a h f 0 v) ∙ in-width signed n (noneOf signed n) W (g .0) (g .1) in
     read-none signed n (stored (stored a 0 1 0) 1 n v) 0 (parts-inside signed n a h f 0 v) f (ap (λ (y : ℤ). same y (noneOf signed n)) e ∙ same-self (noneOf signed n))
-scaled-back signed n a (S.Number i s) f h = number (both (isWidth n) (fitsNumber signed n i s) f)
+scaled-back signed n a (S.Number i s) f h = number (both (isWidth n) (fitsDefined signed n i s) f)
   where
-    number : (isWidth n ≡ true) × (fitsNumber signed n i s ≡ true) → scaledReadAt signed n (putScaled signed n a (S.Number i s)) 0 ≡ answer (S.Number i s)
+    number : (isWidth n ≡ true) × (fitsDefined signed n i s ≡ true) → scaledReadAt signed n (putScaled signed n a (S.Number i s)) 0 ≡ answer (S.Number i s)
     number (w, g) = number-back signed n a i s h w g
 
 -- and what was read, where it is defined, is written back as it stood

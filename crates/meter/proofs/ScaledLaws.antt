@@ -16,7 +16,7 @@ use mir.ValLaws.{toZ-ofZ}
 use Rattle.calendar.specs.Said.{Said, answer, refusal}
 use Rattle.meter.specs.Lent.{inside}
 use Rattle.meter.specs.Integer.{beAt, stored, twos, wordOf, isWidth, topOf, halfOf}
-use Rattle.meter.specs.Scaled.{isScale, lowest, highest, noneOf, same, integerOf, isNone, isNoneWord, isDefined, scaledOf, scaledReadAt, fitsNumber}
+use Rattle.meter.specs.Scaled.{isScale, lowest, highest, noneOf, same, integerOf, isNone, isNoneWord, isDefined, scaledOf, scaledReadAt, fitsDefined}
 use Rattle.meter.specs.Rounding.{isDecimals}
 use Rattle.meter.specs.declared.scaled.Scaled.{Scaled}
 use Rattle.meter.specs.declared.scaled.Scaled.the-variants as S
@@ -118,8 +118,8 @@ signed-below n v w h = go (ltb v (halfOf n)) refl
     go false e = let l = ltb-false v (halfOf n) e in rw (twos-high (halfOf n) v l (omega (arith, w .halves)))
 
 -- ---- what can be written, by the size of the integer
-pub fits-signed : (n : ℕ) (i s : ℤ) → Wide n → isScale s ≡ true → ltb (natAbs i) (halfOf n) ≡ fitsNumber true n i s
-unfolding fitsNumber noneOf lowest highest
+pub fits-signed : (n : ℕ) (i s : ℤ) → Wide n → isScale s ≡ true → ltb (natAbs i) (halfOf n) ≡ fitsDefined true n i s
+unfolding fitsDefined noneOf lowest highest
 fits-signed n (pos k) s w e = rw e (go (ltb k (halfOf n)) refl)
   where
     go : (b : Bool) → ltb k (halfOf n) ≡ b → b ≡ (leb k (halfOf n - 1) && true) && ltb k 0x8000_0000_0000_0000
@@ -137,13 +137,13 @@ fits-signed n (negsuc k) s w e = rw (e, same-negsuc k (halfOf n - 1)) (go (ltb (
         last true q = rw (le-leb k (halfOf n - 1) (omega (arith, eqb-true k (halfOf n - 1) q)))
         last false q = let d : k ≡ halfOf n - 1 → ⊥ = eqb-false k (halfOf n - 1) q in let l = ltb-false (suc k) (halfOf n) h in rw (lt-leb k (halfOf n - 1) (omega arith))
 
-pub fits-negative : (n : ℕ) (i s : ℤ) → ltZ i (pos 0) ≡ true → isScale s ≡ true → false ≡ fitsNumber false n i s
-unfolding fitsNumber noneOf lowest highest
+pub fits-negative : (n : ℕ) (i s : ℤ) → ltZ i (pos 0) ≡ true → isScale s ≡ true → false ≡ fitsDefined false n i s
+unfolding fitsDefined noneOf lowest highest
 fits-negative n (pos k) s t e = absurd (omega (arith, ltb-true k 0 t))
 fits-negative n (negsuc k) s t e = rw e
 
-pub fits-unsigned : (n : ℕ) (i s : ℤ) → SFits w64 i → ltZ i (pos 0) ≡ false → isScale s ≡ true → ltb (natAbs i) (topOf n) ≡ fitsNumber false n i s
-unfolding fitsNumber noneOf lowest highest
+pub fits-unsigned : (n : ℕ) (i s : ℤ) → SFits w64 i → ltZ i (pos 0) ≡ false → isScale s ≡ true → ltb (natAbs i) (topOf n) ≡ fitsDefined false n i s
+unfolding fitsDefined noneOf lowest highest
 fits-unsigned n (negsuc k) s f t e = absurd (true≢false t)
 fits-unsigned n (pos k) s f t e = rw (e, same-pos k (topOf n), lt-ltb k 0x8000_0000_0000_0000 (f .sfits)) (go (ltb k (topOf n)) refl)
   where

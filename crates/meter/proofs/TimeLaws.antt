@@ -10,6 +10,8 @@ use native.Mathlib.Omega.{arith}
 use borrow.Author.Tests.{eq-eqb, ne-eqb, leb-true, le-leb}
 use lib.Dec.{leb}
 use lib.ListN.{length}
+use mir.Val.{Val}
+use denote.Laws.{Is}
 use Rattle.calendar.specs.Said.{Said, answer, refusal}
 use Rattle.meter.specs.Lent.{inside}
 use Rattle.meter.specs.Integer.{beAt, stored}
@@ -17,6 +19,7 @@ use Rattle.meter.specs.Time.{lastMilli, isMilli, isTime, bitsOf, timeOf,
 use Rattle.meter.specs.declared.time.Time.{Time}
 use Rattle.meter.specs.declared.time.Time.the-variants as T
 use Rattle.meter.proofs.IntegerLaws.{back, stored-length}
+use Rattle.meter.proofs.time.Time as Typed
 
 pub bits-none : (bits : ℕ) → bits ≡ 0xffff_ffff_ffff → timeOf bits ≡ T.Undefined
 bits-none bits e = simp (eq-eqb bits 0xffff_ffff_ffff e)
@@ -47,14 +50,18 @@ other-day day e = rw e
 pub milli-small : (day ms : ℕ) → isMilli day ms ≡ true → ms < 0xffff_ffff
 milli-small day ms e = omega (arith, leb-true ms (lastMilli day) e, last-most day)
 
--- a time that can be written: its day is of 16 bits
-abbrev pub Writable : Time → Type 0
-Writable T.Undefined = _≡_ {A = ℕ} 0 0
-Writable (T.At day ms) = (day < 65536) × (isMilli day ms ≡ true)
+-- the day of a time that is defined is of 16 bits, as each value of the type has it
+abbrev pub InDays : Time → Type 0
+InDays T.Undefined = Unit
+InDays (T.At day ms) = day < 65536
 
-pub bits-back : (t : Time) → Writable t → (bitsOf t < 256 ^ 6) × (timeOf (bitsOf t) ≡ t)
-bits-back T.Undefined w = (omega arith, refl)
-bits-back (T.At day ms) (d, m) =
+pub in-days : (t : Time) (vs : List Val) → Is Typed.the-row t vs → InDays t
+in-days T.Undefined vs g = tt
+in-days (T.At day ms) vs g = omega (arith, g)
+
+pub bits-back : (t : Time) → InDays t → isTime t ≡ true → (bitsOf t < 256 ^ 6) × (timeOf (bitsOf t) ≡ t)
+bits-back T.Undefined d m = (omega arith, refl)
+bits-back (T.At day ms) d m =
     let s : ms < 0xffff_ffff = milli-small day ms m in
     let b = day * 0x1_0000_0000 + ms in
     let q : b / 0x1_0000_0000 ≡ day = omega arith in
@@ -63,12 +70,9 @@ bits-back (T.At day ms) (d, m) =
     (omega arith, bits-some b n ∙ ap (λ (k : ℕ). T.At k (b % 0x1_0000_0000)) q ∙ ap (T.At day) r)
 
 -- READS BACK
-pub time-back : (a : List ℕ) (t : Time) → Writable t → 6 ≤ length a → timeReadAt (stored a 0 6 (bitsOf t)) 0 ≡ answer t
-time-back a t w h =
-    let e : timeAt (stored a 0 6 (bitsOf t)) 0 ≡ t = ap timeOf (back a 0 6 (bitsOf t) h ∙ mod-eq-of-lt (bits-back t w .0)) ∙ bits-back t w .1 in
+pub time-back : (a : List ℕ) (t : Time) → InDays t → isTime t ≡ true → 6 ≤ length a → timeReadAt (stored a 0 6 (bitsOf t)) 0 ≡ answer t
+time-back a t d m h =
+    let b = bits-back t d m in
+    let e : timeAt (stored a 0 6 (bitsOf t)) 0 ≡ t = ap timeOf (back a 0 6 (bitsOf t) h ∙ mod-eq-of-lt (b .0)) ∙ b .1 in
     let i : inside (stored a 0 6 (bitsOf t)) 0 6 ≡ true = le-leb 6 (length (stored a 0 6 (bitsOf t))) (omega (arith, stored-length a 0 6 (bitsOf t))) in
-    time-read (stored a 0 6 (bitsOf t)) 0 t i e ∙ go t w
-  where
-    go : (t : Time) → Writable t → cond (isTime t) (answer t) (refusal 21 0) ≡ answer t
-    go T.Undefined w = refl
-    go (T.At day ms) (d, m) = simp m
+    time-read (stored a 0 6 (bitsOf t)) 0 t i e ∙ rw m

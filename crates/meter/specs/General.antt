@@ -171,5 +171,5 @@ abbrev pub WritesGeneral : List ℕ → Bool → General → Written → List �
 WritesGeneral room long t r exit = Writes room (digitsOf long + 1) (fitsGeneral long t) (putGeneral (digitsOf long) room t) r exit
 
 -- THE WRITER of a day and millisecond as long text
-abbrev pub WritesText : List ℕ → Time → Written → List ℕ → Type 0
-WritesText room t r exit = Writes room 18 (isTime t) (putGeneral 17 room (generalOf t)) r exit
+abbrev pub WritesTimeText : List ℕ → Time → Written → List ℕ → Type 0
+WritesTimeText room t r exit = Writes room 18 (isTime t) (putGeneral 17 room (generalOf t)) r exit

@@ -69,13 +69,13 @@ saidScaled (R.Refused r) = refused r
 
 -- ---- writing
 -- an integer in its width, not the undefined one, below 2 ^ 63, with an allowed scale
-unfoldable pub fitsNumber : Bool → ℕ → ℤ → ℤ → Bool
-fitsNumber signed n i s =
+unfoldable pub fitsDefined : Bool → ℕ → ℤ → ℤ → Bool
+fitsDefined signed n i s =
     isScale s && (((leZ (lowest signed n) i && leZ i (highest signed n)) && not (same i (noneOf signed n))) && ltZ i (pos 0x8000_0000_0000_0000))
 
 abbrev pub fitsScaled : Bool → ℕ → Scaled → Bool
 fitsScaled signed n S.Undefined = isWidth n
-fitsScaled signed n (S.Number i s) = isWidth n && fitsNumber signed n i s
+fitsScaled signed n (S.Number i s) = isWidth n && fitsDefined signed n i s
 
 -- a with the scale byte and the n bytes of the integer at its start; undefined is written with scale 0
 abbrev pub putScaled : Bool → ℕ → List ℕ → Scaled → List ℕ

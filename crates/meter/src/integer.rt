@@ -33,7 +33,7 @@ pub(crate) fn wide(x: u8) -> u64
 }
 
 // The n bytes from `at` on lie within `len`.
-pub(crate) fn holds(len: usize, at: usize, n: usize) -> bool
+pub fn holds(len: usize, at: usize, n: usize) -> bool
     ensures { λ r. ⌜ r ≡ leb (at + n) len ⌝ }
 {
     if len < at {
@@ -83,7 +83,7 @@ pub(crate) fn size_of(z: i64) -> u64
 }
 
 // The bits of `z`, as 8 bytes hold them.
-pub(crate) fn bits_of(z: i64) -> u64
+pub fn bits_of(z: i64) -> u64
     ensures { λ r. ⌜ r ≡ wordOf z ⌝ }
 {
     if z < 0 {

@@ -10,7 +10,7 @@ ghost use lib.ListN.{length};
 ghost use lib.IntN.{natAbs};
 ghost use Rattle.meter.specs.Integer.{isWidth, twos, wordOf};
 ghost use Rattle.meter.specs.Scaled.{isScale, noneOf, isNoneWord, definedOf, scaledReadAt, saidScaled};
-ghost use Rattle.meter.specs.Scaled.{fitsNumber, WritesParts, WritesScaled};
+ghost use Rattle.meter.specs.Scaled.{fitsDefined, WritesParts, WritesScaled};
 ghost use Rattle.meter.specs.Rounding.{isDecimals, near, signedOf, nearestOf, roundedOf, saidRounded};
 ghost use Rattle.meter.specs.Reading.{readingOf, saidReading};
 
@@ -173,9 +173,9 @@ pub fn read_scaled(bytes: &[u8], at: usize, width: usize, signed: bool) -> Scale
 }
 
 // The integer and its scale can be written: they are in their limits, and do not read as undefined.
-fn fits_number(width: usize, signed: bool, integer: i64, scale: i8) -> bool
+fn fits_defined(width: usize, signed: bool, integer: i64, scale: i8) -> bool
     requires { ⌜ isWidth width ≡ true ⌝ }
-    ensures { λ r. ⌜ r ≡ fitsNumber signed width integer scale ⌝ }
+    ensures { λ r. ⌜ r ≡ fitsDefined signed width integer scale ⌝ }
 {
     if !is_scale(scale) {
         return false;
@@ -235,7 +235,7 @@ pub fn write_scaled(room: &mut [u8], width: usize, signed: bool, number: Scaled)
     match number {
         Scaled::Undefined => write_parts(room, width, true, 0, none_bits(width, signed)),
         Scaled::Number { integer, scale } => {
-            let right = fits_number(width, signed, integer, scale);
+            let right = fits_defined(width, signed, integer, scale);
             let low = crate::integer::bits_of(scale as i64);
             write_parts(room, width, right, low, crate::integer::bits_of(integer))
         }

@@ -13,7 +13,7 @@ use Rattle.calendar.proofs.Determined.{fixes, only}
 use Rattle.meter.specs.Lent.{wrote, saidWritten}
 use Rattle.meter.specs.declared.integer.Written.{Written}
 use Rattle.meter.specs.declared.general.General.{General}
-use Rattle.meter.proofs.Determined.{unsaidWritten, written-back}
+use Rattle.meter.proofs.Determined.{unsaidWritten, written-unsaid}
 use Rattle.meter.specs.General.{digitsOf, putGeneral}
 use Rattle.text.specs.Writing.{putNumber, putText}
 use Rattle.text.specs.declared.Number.{Number}
@@ -30,27 +30,27 @@ abbrev unsaidPlace : Said Place → FieldPlace
 unsaidPlace (answer x) = P.Place x
 unsaidPlace (refusal n p) = P.Refused (refusing n p)
 
-place-back : (r : FieldPlace) → unsaidPlace (saidPlace r) ≡ r
-place-back (P.Place x) = refl
-place-back (P.Refused r) = refl
+place-unsaid : (r : FieldPlace) → unsaidPlace (saidPlace r) ≡ r
+place-unsaid (P.Place x) = refl
+place-unsaid (P.Refused r) = refl
 
 abbrev unsaidField : Said ℕ → FieldNumber
 unsaidField (answer x) = F.Field x
 unsaidField (refusal n p) = F.Refused (refusing n p)
 
-field-back : (r : FieldNumber) → unsaidField (saidField r) ≡ r
-field-back (F.Field x) = refl
-field-back (F.Refused r) = refl
+field-unsaid : (r : FieldNumber) → unsaidField (saidField r) ≡ r
+field-unsaid (F.Field x) = refl
+field-unsaid (F.Refused r) = refl
 
 pub unique-field-place : (k : ℕ) (r s : FieldPlace) → saidPlace r ≡ fieldOf k → saidPlace s ≡ fieldOf k → r ≡ s
-unique-field-place k = fixes saidPlace unsaidPlace place-back (fieldOf k)
+unique-field-place k = fixes saidPlace unsaidPlace place-unsaid (fieldOf k)
 
 pub unique-field-named : (name : List ℕ) (r s : FieldNumber) → saidField r ≡ fieldNamed name → saidField s ≡ fieldNamed name → r ≡ s
-unique-field-named name = fixes saidField unsaidField field-back (fieldNamed name)
+unique-field-named name = fixes saidField unsaidField field-unsaid (fieldNamed name)
 
 one-line : (room : List ℕ) (k : ℕ) (right : Bool) (put : List ℕ → List ℕ) (r s : Written) (p q : List ℕ) → WritesLine room k right put r p → WritesLine room k right put s q → (r ≡ s) × (p ≡ q)
 one-line room k right put r s p q x y =
-    (fixes saidWritten unsaidWritten written-back (writesLine room (widthOf k + 33) right) r s (x .0) (y .0), only (wrote room (widthOf k + 33) right (putLine k put room)) p q (x .1) (y .1))
+    (fixes saidWritten unsaidWritten written-unsaid (writesLine room (widthOf k + 33) right) r s (x .0) (y .0), only (wrote room (widthOf k + 33) right (putLine k put room)) p q (x .1) (y .1))
 
 pub unique-write-text-line : (room : List ℕ) (k : ℕ) (t : List ℕ) (r s : Written) (p q : List ℕ) → WritesTextLine room k t r p → WritesTextLine room k t s q → (r ≡ s) × (p ≡ q)
 unique-write-text-line room k t = one-line room k (textOn k t) (λ (a : List ℕ). putText a t)
@@ -63,7 +63,7 @@ unique-write-time-line room k t = one-line room k (timeOn k t) (λ (a : List ℕ
 
 pub unique-write-name : (room : List ℕ) (k : ℕ) (r s : Written) (p q : List ℕ) → WritesName room k r p → WritesName room k s q → (r ≡ s) × (p ≡ q)
 unique-write-name room k r s p q x y = (
-  fixes saidWritten unsaidWritten written-back (writesLine room (length (nameOf k)) (leb k 71)) r s (x .0) (y .0),
+  fixes saidWritten unsaidWritten written-unsaid (writesLine room (length (nameOf k)) (leb k 71)) r s (x .0) (y .0),
   only (wrote room (length (nameOf k)) (leb k 71) (nameOf k ++ drop (length (nameOf k)) room)) p q (x .1) (y .1),
 )
 

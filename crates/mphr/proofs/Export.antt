@@ -79,4 +79,4 @@ size-read {a} f h = count-read a 1485 11 (size-number a (fine-valued f 28 (omega
 
 pub total-read : {a : List ℕ} → Fine a → 2994 ≤ length a → (j : ℕ) → j < 9 → numberReadAt false 6 a (2675 + 39 * j) ≡ answer (N.Whole (pos (total a j)))
 unfolding total isValue
-total-read {a} f h j l = count-read a (2675 + 39 * j) 6 (total-number a j l (totals-valued f j l)) (omega arith) (omega arith)
+total-read {a} f h j l = count-read a (2675 + 39 * j) 6 (total-number a j l (fine-valued f (55 + j) (omega arith))) (omega arith) (omega arith)

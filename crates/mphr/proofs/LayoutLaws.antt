@@ -54,7 +54,7 @@ pub width-most : (k : ℕ) → k < 72 → widthOf k ≤ 67
 width-most k h = leb→le _ _ (at (λ (k : ℕ). leb (widthOf k) 67) 72 widths-most k h)
 
 -- the kind of a line by its number
-kind-back : (x : Kind) → kindFrom (codeOf x) ≡ x
+pub kind-back : (x : Kind) → kindFrom (codeOf x) ≡ x
 kind-back Text = refl
 kind-back Unsigned = refl
 kind-back Count = refl
@@ -62,9 +62,12 @@ kind-back Signed = refl
 kind-back Time = refl
 kind-back LongTime = refl
 
-pub kind-from : (k : ℕ) → kindFrom (getD codes k 0) ≡ kindOf k
+pub code-at : (k : ℕ) → getD codes k 0 ≡ codeOf (kindOf k)
 unfolding codes kindOf
-kind-from k = ap kindFrom (List·getD-map codeOf kinds k Text) ∙ kind-back (getD kinds k Text)
+code-at k = List·getD-map codeOf kinds k Text
+
+pub kind-from : (k : ℕ) → kindFrom (getD codes k 0) ≡ kindOf k
+kind-from k = ap kindFrom (code-at k) ∙ kind-back (kindOf k)
 
 -- each line starts after the one before
 pub start-next : (k : ℕ) → lineStart (suc k) ≡ lineStart k + widthOf k + 33

@@ -1,9 +1,9 @@
 -- A line by the code's tests: its name, "= " and line feed, its value, and the numbers of the size and the totals. By rewriting with each
 -- test that led there; the kinds of those ten lines are computed. Assumes nothing.
-use mathlib.Core.Path.{_≡_, refl, sym, ap, _∙_}
+use mathlib.Core.Path.{_≡_, refl, sym, _∙_}
 use mathlib.Core.Bool.{Bool, true, false, _&&_}
 use mathlib.Core.List.{List}
-use Prim.Native.Nat.{ℕ, suc, _+_, _*_, _≤_, _<_}
+use Prim.Native.Nat.{ℕ, _+_, _*_, _≤_, _<_}
 use native.Mathlib.Omega.{arith}
 use lib.Dec.{T, eqb, eqb→eq}
 use lib.ListN.{length, getD}
@@ -20,20 +20,11 @@ use Rattle.mphr.specs.Layout.{fields, widths, kinds, names, widthOf, kin
 use Rattle.mphr.proofs.LayoutLaws.{start-28, total-start}
 
 -- ---- a line's name, "= " and line feed, in the code's names
-module _ (a : List ℕ) (k p j : ℕ) (e : p ≡ lineStart k) (f : (i : ℕ) → i < j → getD a (p + i) 0 ≡ getD names (30 * k + i) 0) where
-  led : j ≤ 30 → (j < 30 → getD a (p + j) 0 ≡ getD names (30 * k + j) 0 → ⊥) → lead (λ (i : ℕ). eqb (getD a (lineStart k + i) 0) (getD names (30 * k + i) 0)) 30 ≡ j
-  led h d =
-      lead-is (λ (i : ℕ). eqb (getD a (lineStart k + i) 0) (getD names (30 * k + i) 0)) 30 j h
-      (λ i l. eq-eqb _ _ (rw e at (f i l)))
-      (λ l. ne-eqb _ _ (rw e at (d l)))
-
-  pub name-no : j < 30 → (getD a (p + j) 0 ≡ getD names (30 * k + j) 0 → ⊥) → false ≡ named a k
-  unfolding named
-  name-no h d = rw (led (omega arith) (λ _. d)) (sym (ne-eqb j 30 (λ q. omega arith)))
-
-  pub name-yes : j ≡ 30 → true ≡ named a k
-  unfolding named
-  name-yes h = rw (led (omega arith) (λ l. absurd (omega arith))) (sym (eq-eqb j 30 h))
+pub name-yes : (a : List ℕ) (k p j : ℕ) → p ≡ lineStart k → j ≡ 30 → ((i : ℕ) → i < j → getD a (p + i) 0 ≡ getD names (30 * k + i) 0) → true ≡ named a k
+unfolding named
+name-yes a k p j e h f =
+    let test : ℕ → Bool = λ i. eqb (getD a (lineStart k + i) 0) (getD names (30 * k + i) 0) in
+    sym (eq-eqb (lead test 30) 30 (lead-is test 30 30 (omega arith) (λ i l. eq-eqb _ _ (rw e at (f i (omega arith)))) (λ l. absurd (omega arith))))
 
 module _ (a : List ℕ) (k p w : ℕ) (e : p ≡ lineStart k) (f : w ≡ widthOf k) where
   pub frame-name : named a k ≡ false → false ≡ framed a k

@@ -1,100 +1,85 @@
--- The laws of the names: each is proper and no two are the same, by one test that antt computes over all of them; and what that gives.
--- Assumes nothing.
+-- The laws of the name table: by one test that antt computes over its 2,160 bytes each entry is letters and then spaces and no two are equal; the
+-- entries are the layout's names, padded; so a name is found, and has one place. By induction on the entries. Assumes nothing.
 use mathlib.Core.Path.{_≡_, refl, sym, ap, _∙_, subst}
-use mathlib.Core.Bool.{Bool, true, false, not, cond, _&&_, _||_, true≢false}
-use mathlib.Core.List.{List, [], _∷_, _++_}
+use mathlib.Core.Bool.{Bool, true, false, not, cond, _&&_, true≢false}
+use mathlib.Core.List.{List, [], _∷_, map}
 use Prim.Native.Nat.{ℕ, zero, suc, _+_, _-_, _*_, _≤_, _<_}
-use native.Mathlib.Nat.{not-suc-le-zero, le-of-suc-le-suc, mul-zero, zero-add, mul-suc, add-assoc, add-comm, add-zero, suc-add, add-suc}
+use native.Mathlib.Nat.{not-suc-le-zero, le-of-suc-le-suc, zero-add, mul-suc, add-zero, suc-add, add-suc}
 use native.Mathlib.Numerals.{add-one}
 use native.Mathlib.Decide.{decLt}
 use native.Mathlib.Omega.{arith}
 use borrow.Author.Tests.{eq-eqb, ne-eqb, eqb-true}
 use lib.Dec.{T, eqb, eqb·suc-suc, eqb→eq, leb, leb→le}
-use lib.ListN.{length, getD, drop, replicate, length-append, length-replicate, getD-replicate, List·getD-append, drop-of-length-le}
-use lib.Seq.{getD-append-add, drop-cons, drop-nil}
+use lib.ListN.{length, getD, drop, replicate, length-append, length-replicate, getD-replicate, List·getD-append, List·getD-map, drop-of-length-le}
+use lib.Seq.{getD-append-add, getD-take, getD-drop, take-at, drop-at, drop-cons}
 use lib.Ieee.Fits.{and-l, and-r}
 use Rattle.mphr.specs.Layout.{fields, rows, names, nameOf, pad, flat}
 use Rattle.mphr.specs.Lookup.{same, lookFrom, fieldNamed}
+use Rattle.mphr.specs.NameTable.{all, letter, isEntry, absent, distinct, entries, isNameTable}
 use Rattle.calendar.specs.Said.{Said, answer, refusal}
 
--- a capital, a digit or an underscore
-abbrev pub letter : ℕ → Bool
-letter x = (leb 65 x && leb x 90) || (leb 48 x && leb x 57) || eqb x 95
+-- THE TEST of the 2,160 bytes, computed
+pub name-table : isNameTable names ≡ true
+unfolding fields rows names entries isNameTable
+name-table = refl
 
-abbrev pub letters : List ℕ → Bool
-letters [] = true
-letters (x ∷ xs) = letter x && letters xs
+-- of the layout's own names: 72, of 30 letters at most
+abbrev plain : List ℕ → Bool
+plain r = leb (length r) 30 && all letter r
 
--- at least one, and at most 30, of them
-abbrev pub proper : List ℕ → Bool
-proper r = (leb 1 (length r) && leb (length r) 30) && letters r
-
-abbrev pub every : List (List ℕ) → Bool
-every [] = true
-every (r ∷ rs) = proper r && every rs
-
-abbrev pub absent : List ℕ → List (List ℕ) → Bool
-absent x [] = true
-absent x (r ∷ rs) = not (same x r) && absent x rs
-
-abbrev pub distinct : List (List ℕ) → Bool
-distinct [] = true
-distinct (r ∷ rs) = absent r rs && distinct rs
-
--- THE TEST, computed: 72 names, each proper, no two the same
-pub test : T ((eqb (length rows) 72 && every rows) && distinct rows)
+test : T (eqb (length rows) 72 && all plain rows)
 unfolding fields rows
 test = tt
 
 pub count : length rows ≡ 72
-count = eqb→eq (length rows) 72 (and-l (eqb (length rows) 72) (every rows) (and-l (eqb (length rows) 72 && every rows) (distinct rows) test))
+count = eqb→eq (length rows) 72 (and-l (eqb (length rows) 72) (all plain rows) test)
 
-all-proper : T (every rows)
-all-proper = and-r (eqb (length rows) 72) (every rows) (and-l (eqb (length rows) 72 && every rows) (distinct rows) test)
-
-all-distinct : T (distinct rows)
-all-distinct = and-r (eqb (length rows) 72 && every rows) (distinct rows) test
+all-plain : T (all plain rows)
+all-plain = and-r (eqb (length rows) 72) (all plain rows) test
 
 -- ---- the rule at each entry
-proper-at : (rs : List (List ℕ)) → T (every rs) → (i : ℕ) → i < length rs → T (proper (getD rs i []))
-proper-at [] t i h = absurd (not-suc-le-zero h)
-proper-at (r ∷ rs) t zero h = and-l (proper r) (every rs) t
-proper-at (r ∷ rs) t (suc i) h = proper-at rs (and-r (proper r) (every rs) t) i (le-of-suc-le-suc h)
+all-at : {A : Type 0} (p : A → Bool) (l : List A) → T (all p l) → (i : ℕ) (d : A) → i < length l → T (p (getD l i d))
+all-at p [] t i d h = absurd (not-suc-le-zero h)
+all-at p (x ∷ xs) t zero d h = and-l (p x) (all p xs) t
+all-at p (x ∷ xs) t (suc i) d h = all-at p xs (and-r (p x) (all p xs) t) i d (le-of-suc-le-suc h)
 
 module _ (i : ℕ) (h : i < 72) where
-  pub rule : T (proper (nameOf i))
-  rule = proper-at rows all-proper i (omega (arith, count))
+  rule : T (plain (nameOf i))
+  rule = all-at plain rows all-plain i [] (omega (arith, count))
 
   pub most : length (nameOf i) ≤ 30
-  most = leb→le (length (nameOf i)) 30 (and-r (leb 1 (length (nameOf i))) (leb (length (nameOf i)) 30) (and-l (leb 1 (length (nameOf i)) && leb (length (nameOf i)) 30) (letters (nameOf i)) rule))
+  most = leb→le (length (nameOf i)) 30 (and-l (leb (length (nameOf i)) 30) (all letter (nameOf i)) rule)
 
   pub no-space : (j : ℕ) → j < length (nameOf i) → getD (nameOf i) j 0 ≡ 32 → ⊥
-  no-space = go (nameOf i) (and-r (leb 1 (length (nameOf i)) && leb (length (nameOf i)) 30) (letters (nameOf i)) rule)
-    where
-      go : (r : List ℕ) → T (letters r) → (j : ℕ) → j < length r → getD r j 0 ≡ 32 → ⊥
-      go [] t j h e = not-suc-le-zero h
-      go (x ∷ xs) t zero h e = subst (λ (k : ℕ). T (letter k)) e (and-l (letter x) (letters xs) t)
-      go (x ∷ xs) t (suc j) h e = go xs (and-r (letter x) (letters xs) t) j (le-of-suc-le-suc h) e
+  no-space j l e = subst (λ (k : ℕ). T (letter k)) e (all-at letter (nameOf i) (and-r (leb (length (nameOf i)) 30) (all letter (nameOf i)) rule) j 0 l)
 
--- ---- the byte at 30 * i + j of the table
+-- ---- the entries are the names, padded; the byte at 30 * i + j of the table
 length-pad : (r : List ℕ) → length r ≤ 30 → length (pad r) ≡ 30
 length-pad r h = length-append r (replicate (30 - length r) 32) ∙ omega (arith, length-replicate {A = ℕ} (30 - length r) 32)
 
-row-fits : (r : List ℕ) (rs : List (List ℕ)) → T (every (r ∷ rs)) → length (pad r) ≡ 30
-row-fits r rs t = length-pad r (leb→le (length r) 30 (and-r (leb 1 (length r)) (leb (length r) 30) (and-l (leb 1 (length r) && leb (length r) 30) (letters r) (and-l (proper r) (every rs) t))))
+entries-flat : (rs : List (List ℕ)) → T (all plain rs) → entries (length rs) (flat rs) ≡ map pad rs
+unfolding entries
+entries-flat [] t = refl
+entries-flat (r ∷ rs) t =
+    let l = length-pad r (leb→le (length r) 30 (and-l (leb (length r) 30) (all letter r) (and-l (plain r) (all plain rs) t))) in
+    rw (take-at (pad r) (flat rs) 30 l, drop-at (pad r) (flat rs) 30 l, entries-flat rs (and-r (plain r) (all plain rs) t))
 
-at-flat : (rs : List (List ℕ)) → T (every rs) → (i j : ℕ) → i < length rs → j < 30 → getD (flat rs) (30 * i + j) 0 ≡ getD (pad (getD rs i [])) j 0
-at-flat [] t i j h k = absurd (not-suc-le-zero h)
-at-flat (r ∷ rs) t zero j h k =
-    let e : 30 * 0 + j ≡ j = omega arith in
-    rw e (List·getD-append (pad r) (flat rs) 0 j (omega (arith, row-fits r rs t)))
-at-flat (r ∷ rs) t (suc i) j h k =
-    let e : 30 * suc i + j ≡ length (pad r) + (30 * i + j) = omega (arith, row-fits r rs t, mul-suc 30 i) in
-    rw e (getD-append-add (pad r) (flat rs) (30 * i + j) 0 ∙ at-flat rs (and-r (proper r) (every rs) t) i j (le-of-suc-le-suc h) k)
+abbrev pub entry : ℕ → List ℕ
+entry i = getD (entries 72 names) i (pad [])
+
+pub entry-is : (i : ℕ) → entry i ≡ pad (nameOf i)
+unfolding names
+entry-is i = ap (λ (l : List (List ℕ)). getD l i (pad [])) (rw count at (entries-flat rows all-plain)) ∙ List·getD-map pad rows i []
+
+entry-byte : (n : ℕ) (t : List ℕ) (i j : ℕ) → i < n → j < 30 → getD (getD (entries n t) i (pad [])) j 0 ≡ getD t (30 * i + j) 0
+unfolding entries
+entry-byte zero t i j h k = absurd (not-suc-le-zero h)
+entry-byte (suc n) t zero j h k = getD-take 30 t j 0 k ∙ ap (λ (m : ℕ). getD t m 0) (omega arith)
+entry-byte (suc n) t (suc i) j h k =
+    entry-byte n (drop 30 t) i j (le-of-suc-le-suc h) k ∙ getD-drop 30 t (30 * i + j) 0 ∙ ap (λ (m : ℕ). getD t m 0) (omega (arith, mul-suc 30 i))
 
 pub at-table : (i j : ℕ) → i < 72 → j < 30 → getD names (30 * i + j) 0 ≡ getD (pad (nameOf i)) j 0
-unfolding names
-at-table i j h k = at-flat rows all-proper i j (omega (arith, count)) k
+at-table i j h k = sym (entry-byte 72 names i j h k) ∙ ap (λ (r : List ℕ). getD r j 0) (entry-is i)
 
 pub pad-in : (r : List ℕ) (j : ℕ) → j < length r → getD (pad r) j 0 ≡ getD r j 0
 pad-in r j h = List·getD-append r (replicate (30 - length r) 32) 0 j h
@@ -126,34 +111,58 @@ same-eq [] (y ∷ ys) e = absurd (true≢false (sym e))
 same-eq (x ∷ xs) [] e = absurd (true≢false (sym e))
 same-eq (x ∷ xs) (y ∷ ys) e = step (eqb x y) x y xs ys (eqb-true x y) (same-eq xs ys) e
 
--- ---- no two names are the same
-absent-at : (x : List ℕ) (rs : List (List ℕ)) → T (absent x rs) → (k : ℕ) → k < length rs → getD rs k [] ≡ x → ⊥
-absent-at x [] t k h e = not-suc-le-zero h
-absent-at x (r ∷ rs) t zero h e = go (same x r) (ap (same x) e ∙ same-refl x) (and-l (not (same x r)) (absent x rs) t)
+-- ---- NO TWO ENTRIES ARE EQUAL, so no two names
+not-same : (x r : List ℕ) → T (not (same x r)) → x ≡ r → ⊥
+not-same x r t e = go (same x r) (ap (same x) (sym e) ∙ same-refl x) t
   where
     go : (b : Bool) → b ≡ true → T (not b) → ⊥
     go true e t = t
     go false e t = true≢false (sym e)
-absent-at x (r ∷ rs) t (suc k) h e = absent-at x rs (and-r (not (same x r)) (absent x rs) t) k (le-of-suc-le-suc h) e
 
--- THE SEARCH FINDS IT: the place of a name is what the search gives, so a name has one place
+distinct-at : (rs : List (List ℕ)) (d : List ℕ) → T (distinct rs) → (i j : ℕ) → i < length rs → j < length rs → getD rs i d ≡ getD rs j d → i ≡ j
+distinct-at [] d t i j h k e = absurd (not-suc-le-zero h)
+distinct-at (r ∷ rs) d t zero zero h k e = refl
+distinct-at (r ∷ rs) d t zero (suc j) h k e =
+    absurd (not-same r (getD rs j d) (all-at (λ (s : List ℕ). not (same r s)) rs (and-l (absent r rs) (distinct rs) t) j d (le-of-suc-le-suc k)) e)
+distinct-at (r ∷ rs) d t (suc i) zero h k e =
+    absurd (not-same r (getD rs i d) (all-at (λ (s : List ℕ). not (same r s)) rs (and-l (absent r rs) (distinct rs) t) i d (le-of-suc-le-suc h)) (sym e))
+distinct-at (r ∷ rs) d t (suc i) (suc j) h k e =
+    ap suc (distinct-at rs d (and-r (absent r rs) (distinct rs) t) i j (le-of-suc-le-suc h) (le-of-suc-le-suc k) e)
+
+entries-length : (n : ℕ) (t : List ℕ) → length (entries n t) ≡ n
+unfolding entries
+entries-length zero t = refl
+entries-length (suc n) t = ap suc (entries-length n (drop 30 t))
+
+table-parts : T (all isEntry (entries 72 names) && distinct (entries 72 names))
+unfolding isNameTable
+table-parts = and-r (eqb (length names) 2160) (all isEntry (entries 72 names) && distinct (entries 72 names)) (rw name-table tt)
+
+pub entry-rule : (i : ℕ) → i < 72 → T (isEntry (entry i))
+entry-rule i h = all-at isEntry (entries 72 names) (and-l (all isEntry (entries 72 names)) (distinct (entries 72 names)) table-parts) i (pad []) (omega (arith, entries-length 72 names))
+
+pub entry-only : (i j : ℕ) → i < 72 → j < 72 → entry i ≡ entry j → i ≡ j
+entry-only i j h k e =
+    distinct-at (entries 72 names) (pad []) (and-r (all isEntry (entries 72 names)) (distinct (entries 72 names)) table-parts) i j
+    (omega (arith, entries-length 72 names)) (omega (arith, entries-length 72 names)) e
+
+pub unique : (i j : ℕ) → i < 72 → j < 72 → nameOf i ≡ nameOf j → i ≡ j
+unique i j h k e = entry-only i j h k (entry-is i ∙ ap pad e ∙ sym (entry-is j))
+
+-- THE SEARCH FINDS IT: the place of a name is what the search gives
 pass : (b : Bool) (x y z : Said ℕ) → (b ≡ true → ⊥) → y ≡ z → cond b x y ≡ z
 pass true x y z f e = absurd (f refl)
 pass false x y z f e = e
 
-find : (rs : List (List ℕ)) → T (distinct rs) → (i k : ℕ) → i < length rs → lookFrom rs k (getD rs i []) ≡ answer (k + i)
-find [] t i k h = absurd (not-suc-le-zero h)
-find (r ∷ rs) t zero k h = rw (same-refl r) (ap answer (sym (add-zero k)))
-find (r ∷ rs) t (suc i) k h =
-    pass (same (getD rs i []) r) (answer k) (lookFrom rs (suc k) (getD rs i [])) (answer (k + suc i))
-    (λ e. absent-at r rs (and-l (absent r rs) (distinct rs) t) i (le-of-suc-le-suc h) (same-eq (getD rs i []) r e))
-    (find rs (and-r (absent r rs) (distinct rs) t) i (suc k) (le-of-suc-le-suc h) ∙ ap answer (suc-add k i ∙ sym (add-suc k i)))
+find : (rs : List (List ℕ)) (i k : ℕ) → i < length rs → ((m : ℕ) → m < i → getD rs i [] ≡ getD rs m [] → ⊥) → lookFrom rs k (getD rs i []) ≡ answer (k + i)
+find [] i k h d = absurd (not-suc-le-zero h)
+find (r ∷ rs) zero k h d = rw (same-refl r) (ap answer (sym (add-zero k)))
+find (r ∷ rs) (suc i) k h d =
+    pass (same (getD rs i []) r) (answer k) (lookFrom rs (suc k) (getD rs i [])) (answer (k + suc i)) (λ e. d 0 (omega arith) (same-eq (getD rs i []) r e))
+    (find rs i (suc k) (le-of-suc-le-suc h) (λ m l e. d (suc m) (omega arith) e) ∙ ap answer (suc-add k i ∙ sym (add-suc k i)))
 
 pub found : (i : ℕ) → i < 72 → fieldNamed (nameOf i) ≡ answer i
-found i h = find rows all-distinct i 0 (omega (arith, count)) ∙ ap answer (zero-add i)
-
-pub unique : (i j : ℕ) → i < 72 → j < 72 → nameOf i ≡ nameOf j → i ≡ j
-unique i j h k e = let p = found i h in let q = found j k in let r : fieldNamed (nameOf i) ≡ fieldNamed (nameOf j) = ap fieldNamed e in cc
+found i h = find rows i 0 (omega (arith, count)) (λ m l e. omega (arith, unique i m h (omega arith) e)) ∙ ap answer (zero-add i)
 
 -- ---- what a byte of the table says of a name
 module _ (i j : ℕ) (h : i < 72) (k : j < 30) where

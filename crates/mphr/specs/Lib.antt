@@ -1,5 +1,6 @@
 pub mod Layout
 pub mod Lookup
+pub mod NameTable
 pub mod Table
 pub mod Turning
 pub mod Lines

@@ -86,6 +86,11 @@ putLine k put a = take 32 (putFrame k (widthOf k) a) ++ put (drop 32 (putFrame k
 abbrev pub writesLine : List ℕ → ℕ → Bool → Said ℕ
 writesLine room n right = cond right (cond (leb n (length room)) (answer n) (refusal 18 n)) (refusal 22 0)
 
+-- the answers, and the frame where nothing is refused
+abbrev pub BeginsLine : List ℕ → ℕ → Bool → Written → List ℕ → Type 0
+BeginsLine room k right r exit =
+    (saidWritten r ≡ writesLine room (widthOf k + 33) right) × (exit ≡ wrote room (widthOf k + 33) right (putFrame k (widthOf k) room))
+
 abbrev pub WritesLine : List ℕ → ℕ → Bool → (List ℕ → List ℕ) → Written → List ℕ → Type 0
 WritesLine room k right put r exit =
     (saidWritten r ≡ writesLine room (widthOf k + 33) right) × (exit ≡ wrote room (widthOf k + 33) right (putLine k put room))

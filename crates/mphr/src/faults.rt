@@ -7,14 +7,12 @@ use crate::layout::kind_at;
 use crate::layout::width_at;
 use calendar::Refusal;
 use meter::integer::Unsigned;
-use text::Number;
-use text::NumberRead;
+use text::count_at;
 ghost use mathlib.Core.Path.{_≡_};
 ghost use mathlib.Core.Bool.{true, false};
-ghost use Prim.Native.Nat.{_+_, _*_, _^_, _≤_, _<_};
+ghost use Prim.Native.Nat.{_+_, _*_, _≤_, _<_};
 ghost use lib.ListN.{length};
 ghost use Rattle.meter.specs.Integer.{beAt};
-ghost use Rattle.meter.specs.General.{numberOf};
 ghost use Rattle.text.specs.Field.{isNumber};
 ghost use Rattle.mphr.specs.Layout.{names, widths, codes, widthOf, lineStart};
 ghost use Rattle.mphr.specs.Table.{headed, named, framed, declared, total, sum, FirstIs};
@@ -115,20 +113,6 @@ fn is_framed(s: &[u8], table: &[u8], k: usize, at: usize, w: usize) -> bool
         return false;
     }
     s[at + 32 + w] == 10
-}
-
-// The number of a field that is one: the size or a total.
-fn count_at(s: &[u8], at: usize, w: usize) -> u64
-    requires { ⌜ (w ≤ 17) × (at + w ≤ length (now s)) × (isNumber false (now s) at w ≡ true) ⌝ }
-    ensures { λ r. ⌜ (r ≡ numberOf (now (s .entry)) at w) × (r < 10 ^ w) ⌝ }
-{
-    let NumberRead::Number(n) = text::read_number(s, at, w, false) else {
-        return 0;
-    };
-    let Number::Whole(z) = n else {
-        return 0;
-    };
-    z as u64
 }
 
 // The total of a class, or of all records at 0.

@@ -4,7 +4,8 @@ use text::Kind;
 ghost use mathlib.Core.Path.{_≡_};
 ghost use Prim.Native.Nat.{_≤_, _<_};
 ghost use lib.ListN.{getD};
-ghost use Rattle.mphr.specs.Layout.{names, widths, kindFrom, codes, widthOf, kindOf, lineStart, fieldOf, saidPlace, LineAfter};
+ghost use Rattle.mphr.specs.Layout.{names, widths, codeOf, kindFrom, codes, widthOf, kindOf, lineStart};
+ghost use Rattle.mphr.specs.Layout.{fieldOf, saidPlace, LineAfter};
 
 // A field: where its line starts, how wide its value is, and of which kind.
 pub struct Place {
@@ -243,17 +244,17 @@ const STARTS: [usize; 72] = [
 ];
 
 // The kinds as numbers: an array of enums cannot be lent.
-const TEXT: u8 = 0;
+pub(crate) const TEXT: u8 = 0;
 
-const UNSIGNED: u8 = 1;
+pub(crate) const UNSIGNED: u8 = 1;
 
-const COUNT: u8 = 2;
+pub(crate) const COUNT: u8 = 2;
 
-const SIGNED: u8 = 3;
+pub(crate) const SIGNED: u8 = 3;
 
-const TIME: u8 = 4;
+pub(crate) const TIME: u8 = 4;
 
-const LONG_TIME: u8 = 5;
+pub(crate) const LONG_TIME: u8 = 5;
 
 pub(crate) const KINDS: [u8; 72] = [
     TEXT,
@@ -419,6 +420,14 @@ pub(crate) fn kind(k: usize) -> Kind
 {
     let table = KINDS;
     kind_at(&table, k)
+}
+
+// The number of the kind of line k.
+pub(crate) fn code(k: usize) -> u8
+    requires { ⌜ k < 72 ⌝ }
+    ensures { λ r. ⌜ r ≡ codeOf (kindOf k) ⌝ }
+{
+    KINDS[k]
 }
 
 // The place of a field by its number; 22 where the number is not 0 to 71.

@@ -1,17 +1,23 @@
 // Lines of the main header, written whole: name, "= ", value and line feed. 22 unless the value fits the field, then 18.
-use crate::layout::kind;
+use crate::layout::COUNT;
+use crate::layout::LONG_TIME;
+use crate::layout::SIGNED;
+use crate::layout::TEXT;
+use crate::layout::TIME;
+use crate::layout::UNSIGNED;
+use crate::layout::code;
 use crate::layout::name_byte;
 use crate::layout::width;
 use calendar::Refusal;
 use meter::general::General;
 use meter::integer::Written;
-use text::Kind;
 use text::Number;
 ghost use mathlib.Core.Path.{_≡_};
+ghost use mathlib.Core.Bool.{true};
 ghost use Prim.Native.Nat.{_+_, _≤_, _<_};
 ghost use lib.ListN.{length};
 ghost use Rattle.mphr.specs.Layout.{widthOf, kindOf};
-ghost use Rattle.mphr.specs.Lines.{countFits, numberFits, textFits, timeFits, isLong, textOn, numberOn, timeOn, putName, putFrame};
+ghost use Rattle.mphr.specs.Lines.{countFits, isLong, textOn, numberOn, timeOn, putName, putFrame, BeginsLine};
 ghost use Rattle.mphr.specs.Lines.{WritesTextLine, WritesNumberLine, WritesTimeLine};
 
 fn text_on(k: usize, text: &[u8]) -> bool
@@ -20,15 +26,10 @@ fn text_on(k: usize, text: &[u8]) -> bool
     if k > 71 {
         return false;
     }
-    let d = kind(k);
-    match d {
-        Kind::Text => text::fits_text(width(k), text),
-        Kind::Unsigned => false,
-        Kind::Count => false,
-        Kind::Signed => false,
-        Kind::Time => false,
-        Kind::LongTime => false,
+    if code(k) != TEXT {
+        return false;
     }
+    text::fits_text(width(k), text)
 }
 
 fn count_fits(w: usize, number: Number) -> bool
@@ -46,15 +47,24 @@ fn number_on(k: usize, number: Number) -> bool
     if k > 71 {
         return false;
     }
-    let d = kind(k);
-    match d {
-        Kind::Text => false,
-        Kind::Unsigned => text::fits_number(false, width(k), number),
-        Kind::Count => count_fits(width(k), number),
-        Kind::Signed => text::fits_number(true, width(k), number),
-        Kind::Time => false,
-        Kind::LongTime => false,
+    let d = code(k);
+    if d == UNSIGNED {
+        return text::fits_number(false, width(k), number);
     }
+    if d == COUNT {
+        return count_fits(width(k), number);
+    }
+    if d == SIGNED {
+        return text::fits_number(true, width(k), number);
+    }
+    false
+}
+
+fn is_long(k: usize) -> bool
+    requires { ⌜ k < 72 ⌝ }
+    ensures { λ r. ⌜ r ≡ isLong (kindOf k) ⌝ }
+{
+    code(k) == LONG_TIME
 }
 
 fn time_on(k: usize, time: General) -> bool
@@ -63,28 +73,10 @@ fn time_on(k: usize, time: General) -> bool
     if k > 71 {
         return false;
     }
-    let d = kind(k);
-    match d {
-        Kind::Text => false,
-        Kind::Unsigned => false,
-        Kind::Count => false,
-        Kind::Signed => false,
-        Kind::Time => meter::general::fits_general(false, time),
-        Kind::LongTime => meter::general::fits_general(true, time),
+    if code(k) < TIME {
+        return false;
     }
-}
-
-fn is_long(d: Kind) -> bool
-    ensures { λ r. ⌜ r ≡ isLong d ⌝ }
-{
-    match d {
-        Kind::LongTime => true,
-        Kind::Text => false,
-        Kind::Unsigned => false,
-        Kind::Count => false,
-        Kind::Signed => false,
-        Kind::Time => false,
-    }
+    meter::general::fits_general(is_long(k), time)
 }
 
 // The first n bytes of the padded name of field k, at the start of the room.
@@ -110,10 +102,12 @@ fn put_frame(room: &mut [u8], k: usize, w: usize)
     room[32 + w] = 10;
 }
 
-pub fn write_text_line(room: &mut [u8], k: usize, text: &[u8]) -> Written
-    ensures { λ r. ⌜ WritesTextLine (now (room .entry)) k (now (text .entry)) r (now (room .exit)) ⌝ }
+// 22 unless the value fits the field, then 18; where neither is refused, the line's frame.
+fn begin_line(room: &mut [u8], k: usize, fits: bool) -> Written
+    requires { ⌜ (fits ≡ true → k < 72) ⌝ }
+    ensures { λ r. ⌜ BeginsLine (now (room .entry)) k fits r (now (room .exit)) ⌝ }
 {
-    if !text_on(k, text) {
+    if !fits {
         return Written::Refused(Refusal {
             number: 22,
             place: 0,
@@ -127,48 +121,38 @@ pub fn write_text_line(room: &mut [u8], k: usize, text: &[u8]) -> Written
         });
     }
     put_frame(room, k, w);
-    text::write_text(&mut room[32..], w, text);
     Written::Bytes(w + 33)
+}
+
+pub fn write_text_line(room: &mut [u8], k: usize, text: &[u8]) -> Written
+    ensures { λ r. ⌜ WritesTextLine (now (room .entry)) k (now (text .entry)) r (now (room .exit)) ⌝ }
+{
+    let begun = begin_line(room, k, text_on(k, text));
+    let Written::Bytes(_) = begun else {
+        return begun;
+    };
+    text::write_text(&mut room[32..], text.len(), text);
+    begun
 }
 
 pub fn write_number_line(room: &mut [u8], k: usize, number: Number) -> Written
     ensures { λ r. ⌜ WritesNumberLine (now (room .entry)) k number r (now (room .exit)) ⌝ }
 {
-    if !number_on(k, number) {
-        return Written::Refused(Refusal {
-            number: 22,
-            place: 0,
-        });
-    }
-    let w = width(k);
-    if room.len() < w + 33 {
-        return Written::Refused(Refusal {
-            number: 18,
-            place: w + 33,
-        });
-    }
-    put_frame(room, k, w);
-    text::write_number(&mut room[32..], w, true, number);
-    Written::Bytes(w + 33)
+    let begun = begin_line(room, k, number_on(k, number));
+    let Written::Bytes(_) = begun else {
+        return begun;
+    };
+    text::write_number(&mut room[32..], width(k), true, number);
+    begun
 }
 
 pub fn write_time_line(room: &mut [u8], k: usize, time: General) -> Written
     ensures { λ r. ⌜ WritesTimeLine (now (room .entry)) k time r (now (room .exit)) ⌝ }
 {
-    if !time_on(k, time) {
-        return Written::Refused(Refusal {
-            number: 22,
-            place: 0,
-        });
-    }
-    let w = width(k);
-    if room.len() < w + 33 {
-        return Written::Refused(Refusal {
-            number: 18,
-            place: w + 33,
-        });
-    }
-    put_frame(room, k, w);
-    meter::general::write_general(&mut room[32..], is_long(kind(k)), time);
-    Written::Bytes(w + 33)
+    let begun = begin_line(room, k, time_on(k, time));
+    let Written::Bytes(_) = begun else {
+        return begun;
+    };
+    meter::general::write_general(&mut room[32..], is_long(k), time);
+    begun
 }

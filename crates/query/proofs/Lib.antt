@@ -1,3 +1,4 @@
 pub mod QueryLaws
 pub mod QueryDetermined
 pub mod QuerySays
+pub mod LineAnswers

@@ -101,7 +101,7 @@ unique-number-field a k (B.Number x) (B.Refused s) f e = absurd (no-and-yes (f .
 unique-number-field a k (B.Refused r) (B.Number y) f e = absurd (no-and-yes (e .0) f)
 unique-number-field a k (B.Refused r) (B.Refused s) f e = ap B.Refused (one-refusal r s (one-denied f e))
 
-unique-time-of : (a : List ℕ) (k : ℕ) (long : Bool) (r s : TimeAnswer) → TimeIs a k long r → TimeIs a k long s → r ≡ s
+pub unique-time-of : (a : List ℕ) (k : ℕ) (long : Bool) (r s : TimeAnswer) → TimeIs a k long r → TimeIs a k long s → r ≡ s
 unique-time-of a k long (T.Time x) (T.Time y) f e = ap T.Time (f .1 ∙ sym (e .1))
 unique-time-of a k long (T.Time x) (T.Refused s) f e = absurd (no-and-yes (f .0) e)
 unique-time-of a k long (T.Refused r) (T.Time y) f e = absurd (no-and-yes (e .0) f)

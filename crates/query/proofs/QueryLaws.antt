@@ -10,6 +10,7 @@ use mathlib.Core.Logic.{_⊎_, inl, inr, ⊎-elim}
 use mathlib.Core.List.{List}
 use lib.Dec.{T, leb, leb→le, eqb, lit<}
 use lib.IntN.{ℤ, pos, negℤ, natAbs}
+use lib.Ieee.{binary64, div, ofInt, ofBits, round, units, odd, size, climb, span}
 use lib.ListN.{length, getD, take}
 use lib.Seq.{take-all, length-take-le, getD-take}
 use borrow.Author.Tests.{le-leb, lt-leb, eq-eqb, eqb-true}
@@ -18,6 +19,7 @@ use Rattle.calendar.specs.Said.{Said, answer, refusal, refused}
 use Rattle.calendar.proofs.Range.{below, at}
 use Rattle.meter.specs.Integer.{beAt}
 use Rattle.meter.specs.Time.{isTime, timeAt}
+use Rattle.meter.proofs.ReadingLaws.{minus?, one-rounding}
 use Rattle.meter.specs.General.{digitsOf, numberOf, isGeneral, generalReadAt}
 use Rattle.record.specs.Header.{isClass, isGroup, isLead, isHeader, headerAt, headerReadAt}
 use Rattle.record.specs.Times.{timedAt}
@@ -40,7 +42,7 @@ use Rattle.mphr.proofs.LayoutLaws.{start-72, start-next, start-mono}
 use Rattle.mphr.proofs.Export.{clean-fine, fine-valued}
 use Rattle.judge.specs.Table as J
 use Rattle.judge.specs.Table.{Site, site, first, classAt, sizeAt, Sound, Leads, here, on, next, oneMore, unknown, bad-times as bad-times-at, main, Clean, Given, Open, Judged}
-use Rattle.query.specs.Query.{refusalOf, StartOf, Reachable, mainPart, sortOf, timesOf, numbers, FieldOf, Denied, faulty, short, no-field, Allowed, valueStart, PartIs, FieldIs, noField, numberIn, NumberIs, timeIn, latitudeField, degrees, pointOf, PointFound, PointIs, Exact}
+use Rattle.query.specs.Query.{refusalOf, StartOf, Reachable, mainPart, sortOf, timesOf, numbers, FieldOf, Denied, faulty, short, no-field, Allowed, valueStart, PartIs, FieldIs, noField, numberIn, NumberIs, timeIn, latitudeField, thousand, degrees, pointOf, PointFound, PointIs, Exact}
 use Rattle.judge.specs.declared.arrival.Arrival.{Arrival}
 use Rattle.judge.specs.declared.arrival.Arrival.the-variants as A
 use Rattle.query.specs.declared.FieldAnswer.{FieldAnswer}
@@ -344,6 +346,14 @@ pub number-at : (a : List ℕ) {k l : ℕ} {q r : NumberAnswer} → k ≡ l → 
 number-at a e f h = rw (e, f) at h
 
 -- ---- the ground point
+-- ONE ROUNDING: the float that stands for a thousand is one thousand, so degrees are the exact fraction, rounded once
+pub thousand-is : thousand ≡ ofInt binary64 (pos 1000)
+unfolding ofInt ofBits round units odd size climb span
+thousand-is = refl
+
+pub degrees-rounded : (z : ℤ) → natAbs z ≤ 2 ^ 53 → degrees z ≡ round binary64 (minus? z) (natAbs z) 1000
+degrees-rounded z h = ap (div binary64 (ofInt binary64 z)) thousand-is ∙ one-rounding z 3 h (omega arith)
+
 pub latitude-small : (end : Bool) → latitudeField end ≤ 51
 latitude-small true = omega arith
 latitude-small false = omega arith

@@ -155,6 +155,7 @@ TimeIs a k long (T.Refused r) = Denied a k (timesOf long) (r .number) (r .place)
 abbrev pub latitudeField : Bool → ℕ
 latitudeField end = cond end 51 49
 
+-- 1000, so that a degree is one rounding (proofs/QueryLaws.antt)
 abbrev pub thousand : Float
 thousand = ofBits binary64 0x408f_4000_0000_0000
 

@@ -24,24 +24,24 @@ abbrev unsaidHeader : Said Header → HeaderRead
 unsaidHeader (answer x) = H.Header x
 unsaidHeader (refusal n p) = H.Refused (refusing n p)
 
-header-back : (r : HeaderRead) → unsaidHeader (saidHeader r) ≡ r
-header-back (H.Header x) = refl
-header-back (H.Refused r) = refl
+header-unsaid : (r : HeaderRead) → unsaidHeader (saidHeader r) ≡ r
+header-unsaid (H.Header x) = refl
+header-unsaid (H.Refused r) = refl
 
 abbrev unsaidPointer : Said Pointer → PointerRead
 unsaidPointer (answer x) = P.Pointer x
 unsaidPointer (refusal n p) = P.Refused (refusing n p)
 
-pointer-back : (r : PointerRead) → unsaidPointer (saidPointer r) ≡ r
-pointer-back (P.Pointer x) = refl
-pointer-back (P.Refused r) = refl
+pointer-unsaid : (r : PointerRead) → unsaidPointer (saidPointer r) ≡ r
+pointer-unsaid (P.Pointer x) = refl
+pointer-unsaid (P.Refused r) = refl
 
 -- ---- the readers, the tests and the follow rule
 pub unique-read-header : (a : List ℕ) (at : ℕ) (r s : HeaderRead) → saidHeader r ≡ headerReadAt a at → saidHeader s ≡ headerReadAt a at → r ≡ s
-unique-read-header a at = fixes saidHeader unsaidHeader header-back (headerReadAt a at)
+unique-read-header a at = fixes saidHeader unsaidHeader header-unsaid (headerReadAt a at)
 
 pub unique-read-pointer : (a : List ℕ) (at : ℕ) (r s : PointerRead) → saidPointer r ≡ pointerReadAt a at → saidPointer s ≡ pointerReadAt a at → r ≡ s
-unique-read-pointer a at = fixes saidPointer unsaidPointer pointer-back (pointerReadAt a at)
+unique-read-pointer a at = fixes saidPointer unsaidPointer pointer-unsaid (pointerReadAt a at)
 
 pub unique-may-follow : (last next : ℕ) (r s : Bool) → r ≡ mayFollow last next → s ≡ mayFollow last next → r ≡ s
 unique-may-follow last next = only (mayFollow last next)

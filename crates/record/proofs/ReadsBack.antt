@@ -8,22 +8,33 @@ use native.Mathlib.Nat.{mod-eq-of-lt}
 use native.Mathlib.Omega.{arith}
 use borrow.Author.Tests.{le-leb, leb-true}
 use lib.ListN.{length, getD}
+use mir.Val.{Val}
+use denote.Laws.{Is}
 use Rattle.calendar.specs.Said.{answer}
 use Rattle.meter.specs.Lent.{inside}
 use Rattle.meter.specs.Integer.{beAt, stored}
 use Rattle.meter.specs.Time.{isTime, bitsOf, timeOf, timeAt, timeReadAt}
 use Rattle.meter.specs.declared.time.Time.{Time}
-use Rattle.meter.specs.declared.time.Time.the-variants as T
+use Rattle.meter.specs.declared.integer.Written.{Written}
+use Rattle.meter.specs.declared.integer.Written.the-variants as W
 use Rattle.meter.proofs.IntegerLaws.{back, beAt-lt, beAt-same}
-use Rattle.meter.proofs.TimeLaws.{Writable, bits-back}
+use Rattle.meter.proofs.TimeLaws.{InDays, in-days, bits-back}
 use Rattle.meter.proofs.ReadsBack.{reads-answer, time-again}
-use Rattle.record.specs.Header.{isHeader, headerAt, headerReadAt, putHeader}
-use Rattle.record.specs.Pointer.{isPointer, pointerAt, pointerReadAt, putPointer}
+use Rattle.meter.proofs.WriterLaws.{beyond, done}
+use Rattle.record.specs.Header.{isHeader, headerAt, headerReadAt, saidHeader, putHeader, WritesHeader}
+use Rattle.record.specs.Pointer.{isPointer, pointerAt, pointerReadAt, saidPointer, putPointer, WritesPointer}
 use Rattle.record.specs.declared.header.Header.{Header}
+use Rattle.record.specs.declared.header.HeaderRead.{HeaderRead}
+use Rattle.record.specs.declared.header.HeaderRead.the-variants as H
 use Rattle.record.specs.declared.pointer.Pointer.{Pointer}
+use Rattle.record.specs.declared.pointer.PointerRead.{PointerRead}
+use Rattle.record.specs.declared.pointer.PointerRead.the-variants as P
 use Rattle.record.proofs.FieldLaws.{part-inside, byte-is, Field, field, put, Held, put-length, put-after, put-held, held-again, held-left}
 use Rattle.record.proofs.HeaderLaws.{header-parts}
 use Rattle.record.proofs.PointerLaws.{pointer-header}
+use Rattle.record.proofs.Determined.{unique-read-header, unique-read-pointer}
+use Rattle.record.proofs.header.Header as HeaderType
+use Rattle.record.proofs.pointer.Pointer as PointerType
 
 -- ---- the fields of a header, one after another
 abbrev fieldsOf : Header → List Field
@@ -34,32 +45,30 @@ header-fields : (a : List ℕ) (h : Header) → putHeader a h ≡ put a 0 (field
 unfolding putHeader
 header-fields a h = refl
 
--- the ranges that the types of the fields give
-abbrev pub DayFits : Time → Type 0
-DayFits T.Undefined = Unit
-DayFits (T.At day ms) = day < 65536
+-- the ranges that the types of the fields give, which each value of the machine's type has
+record Ranges (h : Header) : Type 0 where
+  class : h .class < 256
+  group : h .group < 256
+  subclass : h .subclass < 256
+  version : h .version < 256
+  size : h .size < 0x1_0000_0000
+  start : InDays (h .start)
+  stop : InDays (h .stop)
 
-pub record Typed (h : Header) : Type 0 where
-  pub class : h .class < 256
-  pub group : h .group < 256
-  pub subclass : h .subclass < 256
-  pub version : h .version < 256
-  pub size : h .size < 0x1_0000_0000
-  pub start : DayFits (h .start)
-  pub stop : DayFits (h .stop)
-
-writable : (t : Time) → DayFits t → isTime t ≡ true → Writable t
-writable T.Undefined d e = refl
-writable (T.At day ms) d e = (d, e)
+header-ranges : (h : Header) (vs : List Val) → Is HeaderType.the-row h vs → Ranges h
+header-ranges h vs g =
+    let f = g .1 .1 in
+    let t = f .1 .1 .1 .1 .1 in
+    record { class = f .0 .1; group = f .1 .0 .1; subclass = f .1 .1 .0 .1; version = f .1 .1 .1 .0 .1; size = f .1 .1 .1 .1 .0 .1; start = in-days (h .start) _ (t .0); stop = in-days (h .stop) _ (t .1 .0) }
 
 -- ---- what is held, read
 byte-held : (t : List ℕ) (i v : ℕ) → v < 256 → v % 256 ^ 1 ≡ beAt t i 1 → getD t i 0 ≡ v
 byte-held t i v h e = sym (byte-is t i) ∙ sym e ∙ mod-eq-of-lt h
 
-time-held : (t : List ℕ) (i : ℕ) (u : Time) → Writable u → bitsOf u % 256 ^ 6 ≡ beAt t i 6 → timeAt t i ≡ u
-time-held t i u w e = ap timeOf (sym e ∙ mod-eq-of-lt (bits-back u w .0)) ∙ bits-back u w .1
+time-held : (t : List ℕ) (i : ℕ) (u : Time) → InDays u → isTime u ≡ true → bitsOf u % 256 ^ 6 ≡ beAt t i 6 → timeAt t i ≡ u
+time-held t i u d r e = let b = bits-back u d r in ap timeOf (sym e ∙ mod-eq-of-lt (b .0)) ∙ b .1
 
-header-held : (t : List ℕ) (h : Header) → isHeader h ≡ true → Typed h → Held t 0 0 (fieldsOf h) → headerAt t 0 ≡ h
+header-held : (t : List ℕ) (h : Header) → isHeader h ≡ true → Ranges h → Held t 0 0 (fieldsOf h) → headerAt t 0 ≡ h
 unfolding headerAt
 header-held t h r y e =
     let p = header-parts h r in
@@ -68,8 +77,8 @@ header-held t h r y e =
     let s = byte-held t 2 (h .subclass) (y .subclass) (e .1 .1 .0) in
     let v = byte-held t 3 (h .version) (y .version) (e .1 .1 .1 .0) in
     let z : beAt t 4 4 ≡ h .size = sym (e .1 .1 .1 .1 .0) ∙ mod-eq-of-lt (y .size) in
-    let u = time-held t 8 (h .start) (writable (h .start) (y .start) (p .1)) (e .1 .1 .1 .1 .1 .0) in
-    let w = time-held t 14 (h .stop) (writable (h .stop) (y .stop) (p .2)) (e .1 .1 .1 .1 .1 .1 .0) in
+    let u = time-held t 8 (h .start) (y .start) (p .1) (e .1 .1 .1 .1 .1 .0) in
+    let w = time-held t 14 (h .stop) (y .stop) (p .2) (e .1 .1 .1 .1 .1 .1 .0) in
     rw (c, g, s, v, z, u, w)
 
 -- ---- what is read, held
@@ -95,7 +104,7 @@ read-header room b at bytes h i r =
     (rw z (read-byte b at bytes), (read-byte b (at + 1) bytes, (read-byte b (at + 2) bytes, (read-byte b (at + 3) bytes, (read-word b (at + 4) bytes, (start, (stop, tt)))))))
 
 -- ---- HEADERS
-pub header-back : (a : List ℕ) (h : Header) → isHeader h ≡ true → Typed h → 20 ≤ length a → headerReadAt (putHeader a h) 0 ≡ answer h
+header-back : (a : List ℕ) (h : Header) → isHeader h ≡ true → Ranges h → 20 ≤ length a → headerReadAt (putHeader a h) 0 ≡ answer h
 header-back a h r y l =
     let f = header-fields a h in
     let b = put a 0 (fieldsOf h) in
@@ -129,14 +138,19 @@ pointer-fields : (a : List ℕ) (p : Pointer) → putPointer a p ≡ put a 0 (po
 unfolding putPointer putHeader
 pointer-fields a p = refl
 
-pub record TypedPointer (p : Pointer) : Type 0 where
-  pub header : Typed (p .header)
-  pub class : p .class < 256
-  pub group : p .group < 256
-  pub subclass : p .subclass < 256
-  pub offset : p .offset < 0x1_0000_0000
+record PointerRanges (p : Pointer) : Type 0 where
+  header : Ranges (p .header)
+  class : p .class < 256
+  group : p .group < 256
+  subclass : p .subclass < 256
+  offset : p .offset < 0x1_0000_0000
 
-pointer-held : (t : List ℕ) (p : Pointer) → isPointer p ≡ true → TypedPointer p → Held t 0 0 (pointerFields p) → pointerAt t 0 ≡ p
+pointer-ranges : (p : Pointer) (vs : List Val) → Is PointerType.the-row p vs → PointerRanges p
+pointer-ranges p vs g =
+    let f = g .1 .1 in
+    record { header = header-ranges (p .header) _ (f .0); class = omega (arith, f .1); group = omega (arith, f .1); subclass = omega (arith, f .1); offset = omega (arith, f .1) }
+
+pointer-held : (t : List ℕ) (p : Pointer) → isPointer p ≡ true → PointerRanges p → Held t 0 0 (pointerFields p) → pointerAt t 0 ≡ p
 unfolding pointerAt
 pointer-held t p r y e =
     let x = e .1 .1 .1 .1 .1 .1 .1 in
@@ -157,7 +171,7 @@ read-pointer room b at bytes h i r =
       (e .1 .0, (e .1 .1 .0, (e .1 .1 .1 .0, (x .0, (x .1 .0, (x .1 .1 .0, (read-byte b (at + 20) bytes, (read-byte b (at + 21) bytes, (read-byte b (at + 22) bytes, (read-word b (at + 23) bytes, tt)))))))))),
     )
 
-pub pointer-back : (a : List ℕ) (p : Pointer) → isPointer p ≡ true → TypedPointer p → 27 ≤ length a → pointerReadAt (putPointer a p) 0 ≡ answer p
+pointer-back : (a : List ℕ) (p : Pointer) → isPointer p ≡ true → PointerRanges p → 27 ≤ length a → pointerReadAt (putPointer a p) 0 ≡ answer p
 pointer-back a p r y l =
     let f = pointer-fields a p in
     let b = put a 0 (pointerFields p) in
@@ -179,3 +193,23 @@ pointer-length room p = ap length (pointer-fields room p) ∙ put-length room 0 
 
 pub pointer-kept : (room : List ℕ) (p : Pointer) (j : ℕ) → 27 ≤ j → getD (putPointer room p) j 0 ≡ getD room j 0
 pointer-kept room p j l = ap (λ (s : List ℕ). getD s j 0) (pointer-fields room p) ∙ put-after room 0 (pointerFields p) j l
+
+-- ---- THE WRITERS, by their promises: what lies beyond is kept, whatever is answered
+module _ (room exit : List ℕ) (r : Written) (j : ℕ) where
+  pub write-header-keeps : (h : Header) → WritesHeader room h r exit → 20 ≤ j → getD exit j 0 ≡ getD room j 0
+  write-header-keeps h w l = beyond room 20 (isHeader h) (putHeader room h) exit j (w .1) (λ _ _. header-kept room h j l)
+
+  pub write-pointer-keeps : (p : Pointer) → WritesPointer room p r exit → 27 ≤ j → getD exit j 0 ≡ getD room j 0
+  write-pointer-keeps p w l = beyond room 27 (isPointer p) (putPointer room p) exit j (w .1) (λ _ _. pointer-kept room p j l)
+
+-- and where bytes are answered, what was written reads back, of each value of the machine's type
+module _ (room exit : List ℕ) (m : ℕ) (vs : List Val) where
+  pub write-header-back : (h : Header) → Is HeaderType.the-row h vs → WritesHeader room h (W.Bytes m) exit → (r : HeaderRead) → saidHeader r ≡ headerReadAt exit 0 → r ≡ H.Header h
+  write-header-back h g w r e =
+      let d = done room 20 (isHeader h) (putHeader room h) exit 21 m (w .0) (w .1) in
+      unique-read-header exit 0 r (H.Header h) e (rw (d .left) (sym (header-back room h (d .fits) (header-ranges h vs g) (d .room-is))))
+
+  pub write-pointer-back : (p : Pointer) → Is PointerType.the-row p vs → WritesPointer room p (W.Bytes m) exit → (r : PointerRead) → saidPointer r ≡ pointerReadAt exit 0 → r ≡ P.Pointer p
+  write-pointer-back p g w r e =
+      let d = done room 27 (isPointer p) (putPointer room p) exit 21 m (w .0) (w .1) in
+      unique-read-pointer exit 0 r (P.Pointer p) e (rw (d .left) (sym (pointer-back room p (d .fits) (pointer-ranges p vs g) (d .room-is))))

@@ -2,12 +2,12 @@
 use calendar::Refusal;
 use meter::integer::Unsigned;
 use meter::integer::Written;
+use meter::integer::holds;
 use meter::time::Time;
 use meter::time::TimeRead;
 ghost use mathlib.Core.Path.{_≡_};
 ghost use mathlib.Core.Bool.{true};
 ghost use Prim.Native.Nat.{_+_, _≤_};
-ghost use lib.Dec.{leb};
 ghost use lib.ListN.{length};
 ghost use Rattle.meter.specs.Integer.{beAt, stored};
 ghost use Rattle.meter.specs.Time.{isTime, bitsOf};
@@ -27,16 +27,6 @@ pub struct Header {
 pub enum HeaderRead {
     Header(Header),
     Refused(Refusal),
-}
-
-// The n bytes from `at` on lie within `len`.
-pub(crate) fn holds(len: usize, at: usize, n: usize) -> bool
-    ensures { λ r. ⌜ r ≡ leb (at + n) len ⌝ }
-{
-    if len < at {
-        return false;
-    }
-    n <= len - at
 }
 
 // The number in the 4 bytes from `at` on.

@@ -27,7 +27,7 @@ pub enum PointerRead {
 pub fn read_pointer(bytes: &[u8], at: usize) -> PointerRead
     ensures { λ r. ⌜ saidPointer r ≡ pointerReadAt (now (bytes .entry)) at ⌝ }
 {
-    if !crate::header::holds(bytes.len(), at, 27) {
+    if !meter::integer::holds(bytes.len(), at, 27) {
         return PointerRead::Refused(Refusal {
             number: 20,
             place: bytes.len(),

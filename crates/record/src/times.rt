@@ -9,7 +9,7 @@ ghost use Rattle.record.specs.Times.{timesStand};
 pub fn times_stand(bytes: &[u8], at: usize) -> bool
     ensures { λ r. ⌜ r ≡ timesStand (now (bytes .entry)) at ⌝ }
 {
-    if !crate::header::holds(bytes.len(), at, 20) {
+    if !meter::integer::holds(bytes.len(), at, 20) {
         return false;
     }
     let TimeRead::Time(start) = meter::time::read_time(bytes, at + 8) else {

@@ -14,20 +14,25 @@ use lib.IntN.{ℤ, pos, negsuc, natAbs}
 use lib.ListN.{length, getD, set, take, drop, length-set, length-append, length-drop, List·getD-append}
 use lib.Seq.{getD-set-same, getD-set-other, getD-append-add, getD-drop, take-at}
 use Rattle.calendar.specs.Said.{answer}
-use Rattle.meter.specs.General.{numberOf}
-use Rattle.meter.specs.General as General
+use Rattle.meter.specs.General.{numberOf, putX}
+use Rattle.meter.specs.declared.integer.Written.{Written}
+use Rattle.meter.specs.declared.integer.Written.the-variants as W
+use Rattle.meter.proofs.WriterLaws.{beyond, done}
 use Rattle.meter.proofs.GeneralRuns.{and-true, each-in, in-each}
 use Rattle.meter.proofs.GeneralWrite as Times
-use Rattle.text.specs.Field.{isText, isX, isNumber, integerOf, spaces, isValue, numberReadAt}
+use Rattle.text.specs.Field.{isText, isX, isNumber, integerOf, spaces, isValue, numberReadAt, saidNumber}
 use Rattle.text.specs.Grammar.{In, NumberIn}
-use Rattle.text.specs.Writing.{below, spelled, fitsNumber, mark, still, putRest, putWhole, putX, putNumber, fitsText, putText}
+use Rattle.text.specs.Writing.{below, spelled, fitsNumber, mark, still, putRest, putWhole, putNumber, fitsText, putText, WritesNumber, WritesText}
 use Rattle.text.specs.declared.Kind.{Kind}
 use Rattle.text.specs.declared.Kind.the-variants.{Text, Unsigned, Count, Signed}
 use Rattle.text.specs.declared.Number.{Number}
 use Rattle.text.specs.declared.Number.the-variants as N
-use Rattle.text.proofs.Laws.{read-x, read-whole, fits-some, x-is}
+use Rattle.text.specs.declared.NumberRead.{NumberRead}
+use Rattle.text.specs.declared.NumberRead.the-variants as R
+use Rattle.text.proofs.Laws.{read-x, read-whole, fits-some, text-wide}
 use Rattle.text.proofs.Meaning.{means-number, means-x, spaces-are}
 use Rattle.text.proofs.Exact.{not-x}
+use Rattle.text.proofs.Determined.{unique-read-number}
 
 -- ---- only the first n bytes change
 pub rest-length : (a : List ℕ) (n : ℕ) (minus : Bool) (v : ℕ) → length (putRest a n minus v) ≡ length a
@@ -45,12 +50,12 @@ rest-last : (a : List ℕ) (n : ℕ) (b : ℕ) (minus : Bool) (v : ℕ) → n < 
 rest-last a n b minus v h = rest-after (set a n b) n minus v n (omega arith) ∙ getD-set-same a n b 0 h
 
 pub number-length : (w : ℕ) (a : List ℕ) (x : Number) → length (putNumber w a x) ≡ length a
-number-length w a N.Undefined = ap length (x-is a w) ∙ Times.x-length a w
+number-length w a N.Undefined = Times.x-length a w
 number-length w a (N.Whole z) =
     rest-length (set a (w - 1) (48 + natAbs z % 10)) (w - 1) (below z) (natAbs z / 10) ∙ length-set a (w - 1) (48 + natAbs z % 10)
 
 pub number-kept : (w : ℕ) (a : List ℕ) (x : Number) (j : ℕ) → 0 < w → w ≤ j → getD (putNumber w a x) j 0 ≡ getD a j 0
-number-kept w a N.Undefined j s h = ap (λ (b : List ℕ). getD b j 0) (x-is a w) ∙ Times.x-after a w j h
+number-kept w a N.Undefined j s h = Times.x-after a w j h
 number-kept w a (N.Whole z) j s h =
     rest-after (set a (w - 1) (48 + natAbs z % 10)) (w - 1) (below z) (natAbs z / 10) j (omega arith)
     ∙ getD-set-other a (w - 1) j (48 + natAbs z % 10) 0 (λ e. omega arith)
@@ -248,8 +253,7 @@ either-true false y (inr e) = e
 
 x-written : (w : ℕ) (a : List ℕ) → 0 < w → w ≤ length a → isX (putX a w) 0 w ≡ true
 x-written w a s h =
-    rw (x-is a w)
-    (means-x (General.putX a w) 0 w (s, λ j l. let z : 0 + j ≡ j = omega arith in let e = Times.x-are a w h j l in rw z (omega arith, omega arith)))
+    means-x (putX a w) 0 w (s, λ j l. let z : 0 + j ≡ j = omega arith in let e = Times.x-are a w h j l in rw z (omega arith, omega arith))
 
 number-written : (signed : Bool) (w : ℕ) (a : List ℕ) (z : ℤ) → 0 < w → w ≤ length a → spelled signed w z ≡ true → (isNumber signed (putWhole a w z) 0 w ≡ true) × (integerOf (putWhole a w z) 0 w ≡ z)
 number-written signed zero a z s h f = absurd (omega arith)
@@ -306,3 +310,23 @@ text-back w a t f =
 pub text-valued : (w : ℕ) (a t : List ℕ) → fitsText w t ≡ true → isValue Text (putText a t) 0 w ≡ true
 unfolding isValue
 text-valued w a t f = text-back w a t f .1
+
+-- ---- THE WRITERS, by their promises: what lies beyond is kept, whatever is answered
+module _ (room exit : List ℕ) (r : Written) (w j : ℕ) (h : w ≤ j) where
+  pub write-number-keeps : (signed : Bool) (x : Number) → WritesNumber room w signed x r exit → getD exit j 0 ≡ getD room j 0
+  write-number-keeps signed x p = beyond room w (fitsNumber signed w x) (putNumber w room x) exit j (p .1) (λ f _. number-kept w room x j (fits-some signed w x f) h)
+
+  pub write-text-keeps : (t : List ℕ) → WritesText room w t r exit → getD exit j 0 ≡ getD room j 0
+  write-text-keeps t p = beyond room w (fitsText w t) (putText room t) exit j (p .1) (λ f _. text-kept room t j (omega (arith, text-wide w t f)))
+
+-- and where bytes are answered, what was written reads back
+module _ (room exit : List ℕ) (m w : ℕ) where
+  pub write-number-back : (signed : Bool) (x : Number) → WritesNumber room w signed x (W.Bytes m) exit → (r : NumberRead) → saidNumber r ≡ numberReadAt signed w exit 0 → r ≡ R.Number x
+  write-number-back signed x p r e =
+      let d = done room w (fitsNumber signed w x) (putNumber w room x) exit 21 m (p .0) (p .1) in
+      unique-read-number signed w exit 0 r (R.Number x) e (rw (d .left) (sym (number-back signed w room x (d .fits) (d .room-is))))
+
+  pub write-text-back : (t : List ℕ) → WritesText room w t (W.Bytes m) exit → take w exit ≡ t
+  write-text-back t p =
+      let d = done room w (fitsText w t) (putText room t) exit 21 m (p .0) (p .1) in
+      rw (d .left) (text-back w room t (d .fits) .0)

@@ -9,7 +9,7 @@ use Rattle.calendar.proofs.Determined.{fixes, only}
 use Rattle.meter.specs.Lent.{inside}
 use Rattle.meter.specs.declared.integer.Written.{Written}
 use Rattle.meter.proofs.Determined.{one-writing}
-use Rattle.text.specs.Field.{isValue, numberReadAt, saidNumber}
+use Rattle.text.specs.Field.{isValue, numberReadAt, countAt, saidNumber}
 use Rattle.text.specs.Writing.{fitsNumber, putNumber, fitsText, putText, WritesNumber, WritesText}
 use Rattle.text.specs.declared.Kind.{Kind}
 use Rattle.text.specs.declared.Number.{Number}
@@ -20,15 +20,18 @@ abbrev unsaidNumber : Said Number → NumberRead
 unsaidNumber (answer x) = R.Number x
 unsaidNumber (refusal n p) = R.Refused (refusing n p)
 
-number-back : (r : NumberRead) → unsaidNumber (saidNumber r) ≡ r
-number-back (R.Number x) = refl
-number-back (R.Refused r) = refl
+number-unsaid : (r : NumberRead) → unsaidNumber (saidNumber r) ≡ r
+number-unsaid (R.Number x) = refl
+number-unsaid (R.Refused r) = refl
 
 pub unique-is-value : (d : Kind) (a : List ℕ) (at w : ℕ) (r s : Bool) → r ≡ inside a at w && isValue d a at w → s ≡ inside a at w && isValue d a at w → r ≡ s
 unique-is-value d a at w = only (inside a at w && isValue d a at w)
 
 pub unique-read-number : (signed : Bool) (w : ℕ) (a : List ℕ) (at : ℕ) (r s : NumberRead) → saidNumber r ≡ numberReadAt signed w a at → saidNumber s ≡ numberReadAt signed w a at → r ≡ s
-unique-read-number signed w a at = fixes saidNumber unsaidNumber number-back (numberReadAt signed w a at)
+unique-read-number signed w a at = fixes saidNumber unsaidNumber number-unsaid (numberReadAt signed w a at)
+
+pub unique-count-at : (a : List ℕ) (at w r s : ℕ) → r ≡ countAt a at w → s ≡ countAt a at w → r ≡ s
+unique-count-at a at w = only (countAt a at w)
 
 pub unique-write-number : (room : List ℕ) (w : ℕ) (signed : Bool) (x : Number) (r s : Written) (p q : List ℕ) → WritesNumber room w signed x r p → WritesNumber room w signed x s q → (r ≡ s) × (p ≡ q)
 unique-write-number room w signed x = one-writing room w (fitsNumber signed w x) (putNumber w room x)

@@ -14,7 +14,7 @@ use lib.ListN.{length, getD}
 use Rattle.calendar.specs.Said.{answer}
 use Rattle.meter.specs.General.{numberOf}
 use Rattle.meter.proofs.GeneralRuns.{number-join}
-use Rattle.text.specs.Field.{isX, spaces, isNumber, integerOf, isValue, numberReadAt}
+use Rattle.text.specs.Field.{isX, spaces, isNumber, integerOf, isValue, numberReadAt, countAt}
 use Rattle.text.specs.Grammar.{NumberIn}
 use Rattle.text.specs.declared.Kind.the-variants.{Count}
 use Rattle.text.specs.declared.Number.the-variants as N
@@ -99,3 +99,6 @@ pub count-read : (a : List ℕ) (i w : ℕ) → isValue Count a i w ≡ true →
 unfolding isValue
 count-read a i w e l h =
     sym (read-whole false a i w (le-leb (i + w) (length a) h) l (not-x false a i w e) e (pos (numberOf a i w)) (sym (integer-unsigned a i w e)))
+
+pub count-is : (a : List ℕ) (i w : ℕ) → isNumber false a i w ≡ true → w ≤ 17 → i + w ≤ length a → countAt a i w ≡ numberOf a i w
+count-is a i w e l h = rw (le-leb (i + w) (length a) h, le-leb w 17 l, e)

@@ -19,11 +19,10 @@ use Rattle.calendar.specs.Said.{answer, refusal, refused}
 use Rattle.calendar.specs.declared.Refusal.{Refusal}
 use Rattle.meter.specs.Lent.{inside, writes, wrote}
 use Rattle.meter.specs.General.{digitsOf, runOf, numberOf, isGeneral, generalReadAt}
-use Rattle.meter.specs.General as General
 use Rattle.meter.specs.declared.general.General.{General}
 use Rattle.meter.proofs.GeneralRuns.{and-true}
 use Rattle.text.specs.Field.{isX, signs, spaces, isNumber, integerOf, isValue, numberReadAt}
-use Rattle.text.specs.Writing.{below, spelled, fitsNumber, mark, still, putRest, putWhole, putX, fitsText}
+use Rattle.text.specs.Writing.{below, spelled, fitsNumber, mark, still, putRest, putWhole, fitsText}
 use Rattle.text.specs.declared.Kind.{Kind}
 use Rattle.text.specs.declared.Number.{Number}
 use Rattle.text.specs.declared.Number.the-variants as N
@@ -193,12 +192,6 @@ pub rest-none : (a : List ℕ) (n : ℕ) (minus : Bool) (v : ℕ) → n ≡ 0 �
 unfolding putRest
 rest-none a zero minus v h = refl
 rest-none a (suc k) minus v h = absurd (omega arith)
-
--- the x's are those of a general time: meter's laws of them hold here
-pub x-is : (a : List ℕ) (n : ℕ) → putX a n ≡ General.putX a n
-unfolding putX General.putX
-x-is a zero = refl
-x-is a (suc n) = x-is (set a n 120) n
 
 pub text-step : (a t : List ℕ) (i : ℕ) → i < length t → i < length a → set (take i t ++ drop i a) i (getD t i 0) ≡ take (suc i) t ++ drop (suc i) a
 text-step a t i h g =

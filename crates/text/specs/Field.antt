@@ -9,7 +9,7 @@ use lib.Dec.{eqb, ltb, leb}
 use lib.IntN.{ℤ, pos, negℤ}
 use lib.ListN.{getD}
 use Rattle.calendar.specs.Said.{Said, answer, refused}
-use Rattle.meter.specs.Lent.{reads}
+use Rattle.meter.specs.Lent.{inside, reads}
 use Rattle.meter.specs.General.{runOf, each, numberOf, isGeneral}
 use Rattle.text.specs.declared.Kind.{Kind}
 use Rattle.text.specs.declared.Kind.the-variants.{Text, Unsigned, Count, Signed, Time, LongTime}
@@ -65,6 +65,10 @@ numberAt a i w = cond (isX a i w) N.Undefined (N.Whole (integerOf a i w))
 
 abbrev pub numberReadAt : Bool → ℕ → List ℕ → ℕ → Said Number
 numberReadAt signed w a at = reads a at w (isNumeric signed a at w) (numberAt a at w)
+
+-- THE COUNT: the number of a field that is one without a sign, as the size and the totals are; 0 of any other, and where its bytes are not all there
+abbrev pub countAt : List ℕ → ℕ → ℕ → ℕ
+countAt a at w = cond (inside a at w && (leb w 17 && isNumber false a at w)) (numberOf a at w) 0
 
 -- what an answer says
 abbrev pub saidNumber : NumberRead → Said Number

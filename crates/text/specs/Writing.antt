@@ -7,6 +7,7 @@ use lib.Dec.{eqb, ltb, leb}
 use lib.IntN.{ℤ, pos, negsuc, natAbs}
 use lib.ListN.{length, set, drop}
 use Rattle.meter.specs.Lent.{Writes}
+use Rattle.meter.specs.General.{putX}
 use Rattle.meter.specs.declared.integer.Written.{Written}
 use Rattle.text.specs.Field.{isText}
 use Rattle.text.specs.declared.Number.{Number}
@@ -40,11 +41,6 @@ putRest a (suc n) minus v = putRest (set a n (mark minus v)) n (still minus v) (
 -- a with z in its first w bytes: at least one digit
 abbrev pub putWhole : List ℕ → ℕ → ℤ → List ℕ
 putWhole a w z = putRest (set a (w - 1) (48 + natAbs z % 10)) (w - 1) (below z) (natAbs z / 10)
-
--- a with n times x
-unfoldable pub putX : List ℕ → ℕ → List ℕ
-putX a zero = a
-putX a (suc n) = putX (set a n 120) n
 
 abbrev pub putNumber : ℕ → List ℕ → Number → List ℕ
 putNumber w a N.Undefined = putX a w

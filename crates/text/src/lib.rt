@@ -2,16 +2,17 @@
 use calendar::Refusal;
 use meter::general::GeneralRead;
 use meter::integer::Written;
+use meter::integer::holds;
 ghost use mathlib.Core.Path.{_≡_};
 ghost use mathlib.Core.Bool.{_&&_, _||_};
 ghost use Prim.Native.Nat.{ℕ, _+_, _-_, _^_, _≤_, _<_};
-ghost use lib.Dec.{eqb, leb};
+ghost use lib.Dec.{eqb};
 ghost use lib.IntN.{natAbs};
 ghost use lib.ListN.{length};
 ghost use Rattle.meter.specs.Lent.{inside};
-ghost use Rattle.meter.specs.General.{digitsOf, runOf, each, numberOf, isGeneral};
-ghost use Rattle.text.specs.Field.{isX, signs, spaces, isNumber, integerOf, isValue, numberReadAt, saidNumber};
-ghost use Rattle.text.specs.Writing.{spelled, fitsNumber, mark, still, putRest, putWhole, putX, putNumber, WritesNumber};
+ghost use Rattle.meter.specs.General.{digitsOf, runOf, each, numberOf, isGeneral, putX};
+ghost use Rattle.text.specs.Field.{isX, signs, spaces, isNumber, integerOf, isValue, numberReadAt, countAt, saidNumber};
+ghost use Rattle.text.specs.Writing.{spelled, fitsNumber, mark, still, putRest, putWhole, putNumber, WritesNumber};
 ghost use Rattle.text.specs.Writing.{fitsText, putText, WritesText};
 
 // Count is the kind of the size and the totals: an unsigned number that is never undefined.
@@ -32,16 +33,6 @@ pub enum Number {
 pub enum NumberRead {
     Number(Number),
     Refused(Refusal),
-}
-
-// The n bytes from `at` on lie within `len`.
-fn holds(len: usize, at: usize, n: usize) -> bool
-    ensures { λ r. ⌜ r ≡ leb (at + n) len ⌝ }
-{
-    if len < at {
-        return false;
-    }
-    n <= len - at
 }
 
 // How many of the n bytes from `at` on are `lo` to `hi`, up to the first that is not.
@@ -235,6 +226,22 @@ pub fn read_number(bytes: &[u8], at: usize, width: usize, signed: bool) -> Numbe
         });
     }
     NumberRead::Number(Number::Whole(integer(bytes, at, width)))
+}
+
+// The number of a field that is one, as the size and the totals are; 0 of any other, and where its bytes are not all there.
+pub fn count_at(bytes: &[u8], at: usize, width: usize) -> u64
+    ensures { λ r. ⌜ r ≡ countAt (now (bytes .entry)) at width ⌝ }
+{
+    if !holds(bytes.len(), at, width) {
+        return 0;
+    }
+    if width > 17 {
+        return 0;
+    }
+    if !is_number(bytes, at, width, false) {
+        return 0;
+    }
+    number_of(bytes, at, width)
 }
 
 // Powers of ten to 10 ^ 17.

@@ -5,7 +5,6 @@ use mathlib.Core.Path.{_≡_}
 use mathlib.Core.List.{List, [], _∷_}
 use lib.ListN.{replicate}
 use Rattle.calendar.specs.declared.Refusal.{Refusal}
-use Rattle.meter.specs.Integer.{wordOf}
 use Rattle.meter.specs.declared.general.General.{General}
 use Rattle.meter.specs.declared.general.General.the-variants as G
 use Rattle.meter.specs.declared.general.Moment.{Moment}

@@ -5,7 +5,6 @@ use meter::general::Moment;
 use meter::integer::Written;
 use meter::time::Time;
 ghost use mathlib.Core.Path.{_≡_};
-ghost use Rattle.meter.specs.Integer.{wordOf};
 ghost use Rattle.told.specs.Told.{four, six, refused, one4, time6, moment12, general12, timeWords, writtenSaid};
 
 pub fn refuse4(answer: &mut [u64; 4], r: Refusal)
@@ -78,18 +77,6 @@ pub fn put_one(answer: &mut [u64; 4], n: u64)
     ensures { λ _. ⌜ now (answer .exit) ≡ one4 n ⌝ }
 {
     *answer = [0, 0, n, 0];
-}
-
-// The bits of `z`, as 8 bytes hold them.
-pub fn bits_of(z: i64) -> u64
-    ensures { λ r. ⌜ r ≡ wordOf z ⌝ }
-{
-    if z < 0 {
-        let m = -1 - z;
-        0xffff_ffff_ffff_ffff - (m as u64)
-    } else {
-        z as u64
-    }
 }
 
 pub fn put_time(answer: &mut [u64; 6], time: Time)

@@ -1,7 +1,7 @@
 // The numbers of a header and of a field's number; the others are those of `told`.
+use meter::integer::bits_of;
 use record::header::Header;
 use text::Number;
-use told::put::bits_of;
 use told::put::put4;
 use told::put::time_words;
 ghost use mathlib.Core.Path.{_≡_};

@@ -1,5 +1,4 @@
 -- `text::put_x` meets its contract. The invariant: the i x's that are left, put into the room as it is, give the whole. Assumes nothing.
-use Rattle.text.proofs.Laws.{x-is}
 use Rattle.meter.specs.General.{putX}
 use Rattle.meter.proofs.GeneralWrite.{x-step, x-none}
 use lib.ListN.{length, length-set}
@@ -34,7 +33,7 @@ same-length : tie.Need-same-length Inv-loop μ-loop
 same-length c = c .before .loop .inv .1
 
 returns : tie.Need-returns Inv-loop μ-loop
-returns c = let l = c .before .loop in sym (x-none (l .room) (l .i) (omega arith)) ∙ l .inv .2 ∙ sym (x-is (c .before .before .args .room .now) (c .before .before .args .n))
+returns c = let l = c .before .loop in sym (x-none (l .room) (l .i) (omega arith)) ∙ l .inv .2
 
 pub put-x-spec : {M : Type 1} → statement M
 put-x-spec =

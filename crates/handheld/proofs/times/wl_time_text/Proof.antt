@@ -4,7 +4,7 @@ use mathlib.Core.Path.{_≡_, sym, ap, _∙_, subst}
 use mathlib.Core.List.{List}
 use Prim.Native.Nat.{ℕ}
 use Rattle.meter.specs.declared.time.Time.{Time}
-use Rattle.meter.specs.General.{WritesText}
+use Rattle.meter.specs.General.{WritesTimeText}
 use Rattle.told.proofs.Laws.{moved}
 use borrow.Author.Needs.{needs}
 use Rattle.handheld.proofs.times.wl_time_text.Statement.{statement}
@@ -23,7 +23,7 @@ same-length : tie.Need-same-length
 same-length c = search needs
 
 returns : tie.Need-returns
-returns c = let w = c .before .before .before in let g = w .before .before .before in let s = g .before .before in record { lower = w .time-text .result; right = moved (λ (x : Time) (e : List ℕ). WritesText (now (s .args .room)) x (w .time-text .result) e) _ (g .time .ensures) (w .time-text .ensures); says = c .put-written .ensures }
+returns c = let w = c .before .before .before in let g = w .before .before .before in let s = g .before .before in record { lower = w .time-text .result; right = moved (λ (x : Time) (e : List ℕ). WritesTimeText (now (s .args .room)) x (w .time-text .result) e) _ (g .time .ensures) (w .time-text .ensures); says = c .put-written .ensures }
 
 pub wl-time-text-spec : {M : Type 1} → statement M
 wl-time-text-spec =

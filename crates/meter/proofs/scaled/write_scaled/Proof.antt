@@ -3,7 +3,7 @@ use mir.Val.{SFits}
 use Rattle.meter.specs.declared.scaled.Scaled.the-variants as S
 use Rattle.meter.specs.declared.scaled.Scaled.{Scaled}
 use Rattle.meter.proofs.IntegerLaws.{wide-of}
-use Rattle.meter.specs.Scaled.{noneOf, fitsNumber, fitsScaled, putScaled}
+use Rattle.meter.specs.Scaled.{noneOf, fitsDefined, fitsScaled, putScaled}
 use Rattle.meter.specs.Integer.{isWidth, stored, wordOf}
 use Rattle.meter.specs.Lent.{writes, wrote}
 use mir.Val.{SFits, toZ, ofZ}
@@ -77,8 +77,8 @@ write-parts-requires c κs =
 enum-known-number : tie.Need-enum-known-number
 enum-known-number c = search needs
 
-fits-number-requires : tie.Need-fits-number-requires
-fits-number-requires c κs =
+fits-defined-requires : tie.Need-fits-defined-requires
+fits-defined-requires c κs =
     let w : isWidth (c .before .before .before .before .before .before .args .width) ≡ true = sym (c .before .before .before .before .is-width .ensures) ∙ not-false (c .before .before .before .before .is-width .result) (c .before .before .before .if1 .left) in
     w
 
@@ -120,10 +120,10 @@ returns-3 c =
     let iz = toZ-ofZ w64 i (record { sfits = f .0 .1 }) in
     let sz = toZ-ofZ w8 s (record { sfits = f .1 .0 .1 }) in
     let p = c .before .before .write-parts2 .ensures in
-    let r = c .before .before .before .before .before .before .fits-number .ensures ∙ ap (λ (y : ℤ). fitsNumber (a .signed) (a .width) y (toZ w8 (ofZ w8 s))) iz ∙ ap (fitsNumber (a .signed) (a .width) i) sz in
+    let r = c .before .before .before .before .before .before .fits-defined .ensures ∙ ap (λ (y : ℤ). fitsDefined (a .signed) (a .width) y (toZ w8 (ofZ w8 s))) iz ∙ ap (fitsDefined (a .signed) (a .width) i) sz in
     let k = c .before .before .before .before .before .bits-of .ensures ∙ ap wordOf (toZ-ofZ w64 _ (widen s (record { sfits = f .1 .0 .1 })) ∙ sz) in
     let v = c .before .before .before .bits-of2 .ensures ∙ ap wordOf iz in
-    parts (now (a .room)) (a .signed) (a .width) (S.Number i s) (a .number) (c .before .before .before .before .before .before .fits-number .result) (c .before .before .before .before .before .bits-of .result) (c .before .before .before .bits-of2 .result) _ _ (sym (g .1)) (r ∙ sym (ap (λ (b : Bool). b && fitsNumber (a .signed) (a .width) i s) w)) k v (p .0) (p .1)
+    parts (now (a .room)) (a .signed) (a .width) (S.Number i s) (a .number) (c .before .before .before .before .before .before .fits-defined .result) (c .before .before .before .before .before .bits-of .result) (c .before .before .before .bits-of2 .result) _ _ (sym (g .1)) (r ∙ sym (ap (λ (b : Bool). b && fitsDefined (a .signed) (a .width) i s) w)) k v (p .0) (p .1)
 
 pub write-scaled-spec : {M : Type 1} → statement M
 write-scaled-spec =
@@ -135,7 +135,7 @@ write-scaled-spec =
     none-bits-requires
     write-parts-requires
     enum-known-number
-    fits-number-requires
+    fits-defined-requires
     cast-bits-of
     bits-of-requires
     bits-of-requires-2

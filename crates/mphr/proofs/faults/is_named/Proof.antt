@@ -3,7 +3,7 @@
 use native.Mathlib.Omega.{arith}
 use borrow.Author.Tests.{not-true, not-false}
 use mathlib.Core.Path.{_≡_, refl, ap, _∙_}
-use Prim.Native.Nat.{ℕ, _+_, _*_, _-_, _≤_, _<_}
+use Prim.Native.Nat.{_*_, _-_, _≤_}
 use lib.ListN.{length}
 use Rattle.mphr.specs.Layout.{fields, rows, names}
 use Rattle.mphr.specs.Turning.{Alike}
@@ -11,9 +11,6 @@ use Rattle.mphr.proofs.AlikeLaws.{ten-more, not-named}
 use Rattle.mphr.proofs.LineLaws.{name-yes}
 use Rattle.mphr.proofs.faults.is_named.Statement.{statement}
 use Rattle.mphr.proofs.faults.is_named.Tie as tie
-use Rattle.mphr.proofs.faults.is_named.Reads as reads
-use Rattle.mphr.proofs.faults.is_named.Lts as lts
-use Rattle.mphr.proofs.faults.is_alike.Reads as is-alike-reads
 
 abbrev Inv-loop : tie.InvT-loop
 Inv-loop s table k at i₀ i = (i ≤ 3) × Alike s names at (30 * k) (10 * i)
@@ -62,7 +59,7 @@ loop-again : tie.Need-loop-again Inv-loop μ-loop
 loop-again c = let l = c .before .before .before in let b = l .before .before .before in (omega arith, ten-more (b .args .s .now) (b .args .table .now) (b .args .k) (b .args .at) (l .loop .i) (b .pre .1) (b .pre .3) (l .loop .inv .1) (c .before .is-alike .ensures .good (not-false (c .before .is-alike .result) (c .if1 .left))))
 
 returns-2 : tie.Need-returns-2 Inv-loop μ-loop
-returns-2 c = let b = c .before .before .before .before in name-yes (b .args .s .now) (b .args .k) (b .args .at) (10 * c .before .loop .i) (b .pre .1) (c .before .loop .inv .1) (omega arith)
+returns-2 c = let b = c .before .before .before .before in name-yes (b .args .s .now) (b .args .k) (b .args .at) (10 * c .before .loop .i) (b .pre .1) (omega arith) (c .before .loop .inv .1)
 
 pub is-named-spec : {M : Type 1} → statement M
 is-named-spec =

@@ -1,31 +1,39 @@
 -- `mphr::faults::later` meets its contract: each way out by its tests. Assumes nothing.
+use denote.Ref.{now}
+use borrow.Author.Needs.{needs}
+use Rattle.text.proofs.Exact.{count-is}
 use Rattle.mphr.specs.Table.{declared}
 use mathlib.Core.Logic.{inl, inr}
 use native.Mathlib.Omega.{arith}
-use mathlib.Core.Path.{_≡_, refl, sym, ap, _∙_, subst}
+use mathlib.Core.Path.{_≡_, refl, sym, _∙_}
 use Rattle.mphr.proofs.faults.later.Statement.{statement}
 use Rattle.mphr.proofs.faults.later.Tie as tie
 
 count-at-requires : tie.Need-count-at-requires
-count-at-requires c κs = let p = c .before .before .pre .0 (c .if1 .taken) in (omega arith, omega (arith, p .0), p .1)
+count-at-requires c κs = search needs
+
+-- D
+size-is : (c : tie.After-count-at) → c .count-at .result ≡ declared (now (c .before .before .before .args .s))
+unfolding declared
+size-is c =
+    let t = c .before in
+    let p = t .before .before .pre .0 (t .if1 .taken) in
+    c .count-at .ensures ∙ count-is (now (t .before .before .args .s)) 1485 11 (p .1) (omega arith) (omega (arith, p .0))
 
 returns : tie.Need-returns
-unfolding declared
 returns c =
     let k = c .before .before .if1 .taken in
-    record { four = λ _. (k, inl (omega (arith, c .before .count-at .ensures .0))); five = λ e. absurd (omega arith); size = λ n. absurd (n refl); totals = λ _ e. absurd (omega arith) }
+    record { four = λ _. (k, inl (omega (arith, size-is (c .before)))); five = λ e. absurd (omega arith); size = λ n. absurd (n refl); totals = λ _ e. absurd (omega arith) }
 
 returns-2 : tie.Need-returns-2
-unfolding declared
 returns-2 c =
     let k = c .before .before .before .if1 .taken in
-    record { four = λ _. (k, inr (omega (arith, c .before .before .count-at .ensures .0))); five = λ e. absurd (omega arith); size = λ n. absurd (n refl); totals = λ _ e. absurd (omega arith) }
+    record { four = λ _. (k, inr (omega (arith, size-is (c .before .before)))); five = λ e. absurd (omega arith); size = λ n. absurd (n refl); totals = λ _ e. absurd (omega arith) }
 
 returns-3 : tie.Need-returns-3
-unfolding declared
 returns-3 c =
     let k = c .before .before .before .if1 .taken in
-    record { four = λ e. absurd (omega arith); five = λ e. absurd (omega arith); size = λ _ _. omega (arith, c .before .before .count-at .ensures .0); totals = λ _ e. absurd (omega arith) }
+    record { four = λ e. absurd (omega arith); five = λ e. absurd (omega arith); size = λ _ _. omega (arith, size-is (c .before .before)); totals = λ _ e. absurd (omega arith) }
 
 total-of-requires : tie.Need-total-of-requires
 total-of-requires c κs = (omega arith, c .before .before .before .pre .1 (c .if4 .taken))

@@ -1,65 +1,18 @@
--- `mphr::lines::is_long` meets its contract: the kind taken apart. Assumes nothing.
-use Rattle.mphr.specs.Lines.{isLong}
-use mathlib.Core.Path.{_≡_, refl, sym, ap, _∙_}
+-- `mphr::lines::is_long` meets its contract: the number of the kind. Assumes nothing.
+use mathlib.Core.Path.{ap, _∙_}
+use Prim.Native.Nat.{ℕ}
+use lib.Dec.{eqb}
+use Rattle.mphr.specs.Layout.{kindOf}
+use Rattle.mphr.proofs.WritingLaws.{long-by}
 use borrow.Author.Needs.{needs}
 use Rattle.mphr.proofs.lines.is_long.Statement.{statement}
 use Rattle.mphr.proofs.lines.is_long.Tie as tie
 
-enum-told : tie.Need-enum-told
-enum-told c = search needs
-
-enum-told-2 : tie.Need-enum-told-2
-enum-told-2 c = search needs
-
-enum-told-3 : tie.Need-enum-told-3
-enum-told-3 c = search needs
-
-enum-told-4 : tie.Need-enum-told-4
-enum-told-4 c = search needs
-
-enum-told-5 : tie.Need-enum-told-5
-enum-told-5 c = search needs
-
-enum-told-6 : tie.Need-enum-told-6
-enum-told-6 c = search needs
+code-requires : tie.Need-code-requires
+code-requires c κs = search needs
 
 returns : tie.Need-returns
-unfolding isLong
-returns c = sym (ap isLong (c .enum-told .given .1))
-
-returns-2 : tie.Need-returns-2
-unfolding isLong
-returns-2 c = sym (ap isLong (c .enum-told2 .given .1))
-
-returns-3 : tie.Need-returns-3
-unfolding isLong
-returns-3 c = sym (ap isLong (c .enum-told3 .given .1))
-
-returns-4 : tie.Need-returns-4
-unfolding isLong
-returns-4 c = sym (ap isLong (c .enum-told4 .given .1))
-
-returns-5 : tie.Need-returns-5
-unfolding isLong
-returns-5 c = sym (ap isLong (c .enum-told5 .given .1))
-
-returns-6 : tie.Need-returns-6
-unfolding isLong
-returns-6 c = sym (ap isLong (c .enum-told6 .given .1))
+returns c = ap (λ (n : ℕ). eqb n 5) (c .code .ensures) ∙ long-by (kindOf (c .before .args .k))
 
 pub is-long-spec : {M : Type 1} → statement M
-is-long-spec =
-    tie.close
-    (tie.spec
-    enum-told
-    enum-told-2
-    enum-told-3
-    enum-told-4
-    enum-told-5
-    enum-told-6
-    returns
-    returns-2
-    returns-3
-    returns-4
-    returns-5
-    returns-6)
+is-long-spec = tie.close (tie.spec code-requires returns)

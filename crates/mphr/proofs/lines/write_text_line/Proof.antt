@@ -1,57 +1,52 @@
--- `mphr::lines::write_text_line` meets its contract: 22, then 18, then the frame and the value between (WritingLaws). Assumes nothing.
-use Rattle.text.specs.Writing.{fitsText, putText}
-use Rattle.mphr.proofs.WritingLaws.{on-both, line-unfit, line-small, line-done, value-put, text-fits}
-use Rattle.mphr.specs.Lines.{textOn}
-use Rattle.mphr.specs.Layout.{widthOf, kindOf}
-use mathlib.Core.List.{List}
-use Prim.Native.Nat.{ℕ, _+_, _<_, _≤_}
+-- `mphr::lines::write_text_line` meets its contract: the line is begun, then refused or ended by its value (WritingLaws). Assumes nothing.
 use denote.Ref.{now}
+use Prim.Native.Nat.{ℕ, _<_}
 use native.Mathlib.Omega.{arith}
-use borrow.Author.Tests.{not-true, not-false}
-use mathlib.Core.Bool.{Bool, true, false}
-use mathlib.Core.Path.{_≡_, refl, sym, ap, _∙_}
+use mathlib.Core.Path.{_≡_, sym, ap, _∙_}
+use mathlib.Core.Bool.{true}
+use mathlib.Core.List.{List}
+use lib.ListN.{length}
+use Rattle.mphr.specs.Layout.{widthOf, kindOf}
+use Rattle.text.specs.Writing.{fitsText, putText}
+use Rattle.text.proofs.Laws.{text-wide}
+use Rattle.mphr.specs.Lines.{textFits, textOn}
+use Rattle.mphr.proofs.WritingLaws.{on-both, is-text, Begun, begun-as, begun, begun-room, line-refused, line-ended}
 use borrow.Author.Needs.{needs}
 use Rattle.mphr.proofs.lines.write_text_line.Statement.{statement}
 use Rattle.mphr.proofs.lines.write_text_line.Tie as tie
 
+line : (c : tie.After-begin-line) → Begun (now (c .before .before .before .before .before .args .room)) (c .begin-line .last .0) (c .before .before .before .before .before .args .k) (textOn (c .before .before .before .before .before .args .k) (now (c .before .before .before .before .before .args .text))) (λ (r : List ℕ). putText r (now (c .before .before .before .before .before .args .text))) (c .begin-line .result)
+line c = begun-as (c .before .text-on .ensures) (c .begin-line .ensures)
+
+-- where the line was begun, the value fits
+fits : (c : tie.After-enum-told) → (c .before .before .before .before .before .before .before .before .before .args .k < 72) × (textFits (kindOf (c .before .before .before .before .before .before .before .before .before .args .k)) (widthOf (c .before .before .before .before .before .before .before .before .before .args .k)) (now (c .before .before .before .before .before .before .before .before .before .args .text)) ≡ true)
+unfolding textOn
+fits c = on-both (c .before .before .before .before .before .before .before .before .before .args .k) _ (begun (line (c .before .before .before .before)) _ (c .enum-told .given .1) .fits)
+
 text-on-requires : tie.Need-text-on-requires
 text-on-requires c κs = search needs
 
+begin-line-requires : tie.Need-begin-line-requires
+unfolding textOn
+begin-line-requires c κs = λ e. on-both (c .before .before .before .before .args .k) _ (sym (c .text-on .ensures) ∙ e) .0
+
+enum-told : tie.Need-enum-told
+enum-told c = search needs
+
+enum-told-2 : tie.Need-enum-told-2
+enum-told-2 c = search needs
+
+same-length : tie.Need-same-length
+same-length c = search needs
+
 returns : tie.Need-returns
-returns c =
-    let a = c .before .before .before .before .args in
-    let e : textOn (c .before .before .before .before .args .k) (now (c .before .before .before .before .args .text)) ≡ false = sym (c .before .text-on .ensures) ∙ not-true (c .before .text-on .result) (c .if1 .taken) in
-    line-unfit (now (a .room)) (a .k) (widthOf (a .k)) refl _ (λ (r : List ℕ). putText r (now (a .text))) e
-
-width-requires : tie.Need-width-requires
-unfolding textOn
-width-requires c κs =
-    let e : textOn (c .before .before .before .before .args .k) (now (c .before .before .before .before .args .text)) ≡ true = sym (c .before .text-on .ensures) ∙ not-false (c .before .text-on .result) (c .if1 .left) in
-    on-both (c .before .before .before .before .args .k) _ e .0
-
-add-if2 : tie.Need-add-if2
-add-if2 c = search needs
-
-add-t10 : tie.Need-add-t10
-add-t10 c = search needs
-
-returns-2 : tie.Need-returns-2
-returns-2 c =
-    let a = c .before .before .before .before .before .before .args in
-    let e : textOn (c .before .before .before .before .before .before .args .k) (now (c .before .before .before .before .before .before .args .text)) ≡ true = sym (c .before .before .before .text-on .ensures) ∙ not-false (c .before .before .before .text-on .result) (c .before .before .if1 .left) in
-    line-small (now (a .room)) (a .k) (c .before .width .result) (c .before .width .ensures .0) _ (λ (r : List ℕ). putText r (now (a .text))) e (c .if2 .taken)
-
-put-frame-requires : tie.Need-put-frame-requires
-unfolding textOn
-put-frame-requires c κs =
-    let e : textOn (c .before .before .before .before .before .before .before .args .k) (now (c .before .before .before .before .before .before .before .args .text)) ≡ true = sym (c .before .before .before .before .text-on .ensures) ∙ not-false (c .before .before .before .before .text-on .result) (c .before .before .before .if1 .left) in
-    (on-both (c .before .before .before .before .before .before .before .args .k) _ e .0, c .before .if2 .left)
+returns c = line-refused (line (c .before .before .before .before)) _ (c .enum-told2 .given .1)
 
 sub-write-text : tie.Need-sub-write-text
-sub-write-text c = search needs
+sub-write-text c = omega (arith, begun-room (line (c .before .before .before .before)) _ (c .enum-told .given .1))
 
 part-write-text-start : tie.Need-part-write-text-start
-part-write-text-start c = search needs
+part-write-text-start c = omega (arith, begun-room (line (c .before .before .before .before)) _ (c .enum-told .given .1))
 
 part-write-text-end : tie.Need-part-write-text-end
 part-write-text-end c = search needs
@@ -59,36 +54,32 @@ part-write-text-end c = search needs
 write-text-requires : tie.Need-write-text-requires
 write-text-requires c κs = search needs
 
-add-t9 : tie.Need-add-t9
-add-t9 c = search needs
+same-length-2 : tie.Need-same-length-2
+same-length-2 c = search needs
 
-same-length : tie.Need-same-length
-same-length c = search needs
-
-returns-3 : tie.Need-returns-3
-unfolding textOn
-returns-3 c =
-    let a = c .before .before .before .before .before .before .before .before .before .before .before .before .before .before .args in
-    let e : textOn (c .before .before .before .before .before .before .before .before .before .before .before .before .before .before .args .k) (now (c .before .before .before .before .before .before .before .before .before .before .before .before .before .before .args .text)) ≡ true = sym (c .before .before .before .before .before .before .before .before .before .before .before .text-on .ensures) ∙ not-false (c .before .before .before .before .before .before .before .before .before .before .before .text-on .result) (c .before .before .before .before .before .before .before .before .before .before .if1 .left) in
-    let w = c .before .before .before .before .before .before .before .before .before .width .result in
-    let f = on-both (a .k) _ e in
-    line-done (now (a .room)) (a .k) (c .before .before .before .before .before .before .before .before .before .width .result) (c .before .before .before .before .before .before .before .before .before .width .ensures .0) _ (λ (r : List ℕ). putText r (now (a .text))) e (c .before .before .before .before .before .before .before .before .if2 .left) _ (value-put (a .k) w w (now (a .room)) (c .before .before .before .before .before .before .put-frame .last .0) (c .before .before .write-text .last .0) (fitsText w (now (a .text))) (λ (r : List ℕ). putText r (now (a .text))) (c .before .before .before .before .before .before .put-frame .ensures) (c .before .before .before .before .before .before .before .before .if2 .left) (omega arith) (ap (λ (n : ℕ). fitsText n (now (a .text))) (c .before .before .before .before .before .before .before .before .before .width .ensures .0) ∙ text-fits (kindOf (a .k)) (widthOf (a .k)) (now (a .text)) (f .1)) (c .before .before .write-text .ensures .1))
+returns-2 : tie.Need-returns-2
+returns-2 c =
+    let w = c .before .before in
+    let t = w .before .before in
+    let b = t .before .before .before .before in
+    let a = b .before .before .before .before .before .args in
+    let f = is-text (kindOf (a .k)) (widthOf (a .k)) (now (a .text)) (fits t .1) .1 in
+    let l = text-wide (widthOf (a .k)) (now (a .text)) f in
+    line-ended (line b) _ (length (now (a .text))) (w .write-text .last .0) (fitsText (length (now (a .text))) (now (a .text))) (t .enum-told .given .1) (omega (arith, l)) (ap (λ (n : ℕ). fitsText n (now (a .text))) l ∙ f) (w .write-text .ensures .1)
 
 pub write-text-line-spec : {M : Type 1} → statement M
 write-text-line-spec =
     tie.close
     (tie.spec
     text-on-requires
+    begin-line-requires
+    enum-told
+    enum-told-2
+    same-length
     returns
-    width-requires
-    add-if2
-    add-t10
-    returns-2
-    put-frame-requires
     sub-write-text
     part-write-text-start
     part-write-text-end
     write-text-requires
-    add-t9
-    same-length
-    returns-3)
+    same-length-2
+    returns-2)

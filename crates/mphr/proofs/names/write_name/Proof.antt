@@ -4,12 +4,19 @@ use native.Mathlib.Omega.{arith}
 use borrow.Author.Needs.{needs}
 use denote.Ref.{now}
 use Rattle.mphr.proofs.NameLaws.{most}
-use Rattle.mphr.proofs.WritingLaws.{name-unfit, name-small, name-done}
+use Rattle.mphr.proofs.WritingLaws.{name-laid, write-unfit, write-small, write-done}
+use Rattle.mphr.specs.Layout.{nameOf}
+use Rattle.mphr.specs.Lines.{putName}
+use Rattle.text.specs.Writing.{putText}
+use borrow.Author.Tests.{le-leb, lt-leb}
+use lib.Dec.{leb}
+use lib.ListN.{length}
+use mathlib.Core.Path.{refl, ap, _∙_}
 use Rattle.mphr.proofs.names.write_name.Statement.{statement}
 use Rattle.mphr.proofs.names.write_name.Tie as tie
 
 returns : tie.Need-returns
-returns c = let s = c .before .before in name-unfit (now (s .args .room)) (s .args .k) (c .if1 .taken)
+returns c = let s = c .before .before in write-unfit (now (s .args .room)) (length (nameOf (s .args .k))) (length (nameOf (s .args .k))) refl (leb (s .args .k) 71) (putText (now (s .args .room)) (nameOf (s .args .k))) (lt-leb (s .args .k) 71 (c .if1 .taken))
 
 name-width-requires : tie.Need-name-width-requires
 name-width-requires c κs = search needs
@@ -17,7 +24,7 @@ name-width-requires c κs = search needs
 returns-2 : tie.Need-returns-2
 returns-2 c =
     let s = c .before .before .before .before in
-    name-small (now (s .args .room)) (s .args .k) (c .before .name-width .result) (c .before .before .if1 .left) (c .before .name-width .ensures) (c .if2 .taken)
+    write-small (now (s .args .room)) (c .before .name-width .result) (length (nameOf (s .args .k))) (c .before .name-width .ensures) (leb (s .args .k) 71) (putText (now (s .args .room)) (nameOf (s .args .k))) (le-leb (s .args .k) 71 (c .before .before .if1 .left)) (c .if2 .taken)
 
 put-name-requires : tie.Need-put-name-requires
 put-name-requires c κs =
@@ -35,7 +42,9 @@ returns-3 c =
     let e = p .before .before in
     let w = e .before in
     let s = w .before .before .before in
-    name-done (now (s .args .room)) (p .put-name .last .0) (s .args .k) (w .name-width .result) (w .before .if1 .left) (w .name-width .ensures) (e .if2 .left) (p .put-name .ensures)
+    let k : s .args .k < 72 = omega arith in
+    let n = w .name-width .ensures in
+    write-done (now (s .args .room)) (w .name-width .result) (length (nameOf (s .args .k))) n (leb (s .args .k) 71) (putText (now (s .args .room)) (nameOf (s .args .k))) (le-leb (s .args .k) 71 (w .before .if1 .left)) (e .if2 .left) (p .put-name .last .0) (p .put-name .ensures ∙ ap (putName (now (s .args .room)) (s .args .k)) n ∙ name-laid (now (s .args .room)) (s .args .k) k (omega (arith, n, e .if2 .left)))
 
 pub write-name-spec : {M : Type 1} → statement M
 write-name-spec =

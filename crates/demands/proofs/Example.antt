@@ -4,7 +4,7 @@
 use Prim.Native.Nat.{ℕ, zero, suc, _+_, _*_, _≤_, _<_}
 use Prim.Native.String.{String}
 use native.Mathlib.Omega.{arith}
-use mathlib.Core.Path.{_≡_, refl, sym, _∙_}
+use mathlib.Core.Path.{_≡_, refl, sym, ap, _∙_}
 use mathlib.Core.Bool.{Bool, true, false, cond, _&&_, _||_, true≢false}
 use mathlib.Core.List.{List, [], _∷_, _++_, List·Memᴰ as In, List·Memᴰ·head as top, List·Memᴰ·tail as pop}
 use borrow.Author.Tests.{eq-eqb, eqb-true, leb-true}
@@ -16,6 +16,7 @@ use Rattle.calendar.proofs.Range.{below}
 use Rattle.calendar.proofs.Range as R
 use Rattle.meter.specs.Integer.{beAt}
 use Rattle.meter.specs.General.{lead, runOf, numberOf, isNone, isDigits, momentAt, lastSecond, isMoment}
+use Rattle.meter.proofs.IntegerLaws.{beAt-same}
 use Rattle.meter.proofs.GeneralRuns.{and-true}
 use Rattle.text.specs.Field.{isX, isNumber, isValue}
 use Rattle.meter.specs.Time.{lastMilli}
@@ -185,21 +186,36 @@ lines-are a e k h =
     let u = and-true (isFrame (drop (lineStart k) a) (drop (30 * k) names) (widthOf k)) _ (passed (lineAt a names k) (R.at (lineAt a names) 72 (rw e tt) k h)) in
     (frame-at a k ∙ u .0, value-at a k ∙ u .1)
 
--- ---- THE RECORDS
+-- ---- THE RECORDS. The record at byte i of b; the records of l come after it. A test walks to each record once: its b is what there is from it on
 abbrev isRecord : List ℕ → ℕ → ℕ → Bool
-isRecord a p i = isClass (class a i) && (isGroup (group a i) && (mayFollow p (class a i) && (leb 20 (size a i) && timedAt a i)))
+isRecord b p i = isClass (class b i) && (isGroup (group b i) && (mayFollow p (class b i) && (leb 20 (size b i) && timedAt b i)))
 
 abbrev isIn : ℕ → List ℕ → Bool
 isIn x [] = false
 isIn x (y ∷ l) = eqb x y || isIn x l
 
-abbrev isAimed : List ℕ → List ℕ → ℕ → Bool
-isAimed a l i =
-    eqb (size a i) 27 && (leb 4 (targetClass a i) && (leb (targetClass a i) 8 && (isIn (offset a i) l && eqb (kind a (offset a i)) (targetKind a i))))
+abbrev isAimed : List ℕ → List ℕ → List ℕ → ℕ → Bool
+isAimed a b l i =
+    eqb (size b i) 27 && (leb 4 (targetClass b i) && (leb (targetClass b i) 8 && (isIn (offset b i) l && eqb (kind a (offset b i)) (targetKind b i))))
 
 abbrev isRecords : List ℕ → ℕ → ℕ → List ℕ → Bool
 isRecords a i p [] = eqb i (declared a)
-isRecords a i p (j ∷ l) = eqb j i && (isRecord a p i && (cond (eqb (class a i) 3) (isAimed a l i) true && isRecords a (i + size a i) (class a i) l))
+isRecords a i p (j ∷ l) =
+    let b = drop i a in
+    eqb j i && (isRecord b p 0 && (cond (eqb (class b 0) 3) (isAimed a b l 0) true && isRecords a (i + size b 0) (class b 0) l))
+
+class-here : (a : List ℕ) (i : ℕ) → class (drop i a) 0 ≡ class a i
+class-here a i = let z : i + 0 ≡ i = omega arith in getD-drop i a 0 0 ∙ ap (λ (k : ℕ). getD a k 0) z
+
+be-here : (a : List ℕ) (i j n : ℕ) → beAt (drop i a) j n ≡ beAt a (i + j) n
+be-here a i j n = beAt-same (drop i a) a j (i + j) n (λ k h. let e : i + (j + k) ≡ i + j + k = omega arith in getD-drop i a (j + k) 0 ∙ ap (λ (m : ℕ). getD a m 0) e)
+
+record-here : (a : List ℕ) (p i : ℕ) → isRecord (drop i a) p 0 ≡ isRecord a p i
+unfolding timedAt
+record-here a p i = rw (class-here a i, getD-drop i a 1 0, be-here a i 4 4, be-here a i 8 6, be-here a i 14 6)
+
+aimed-here : (a l : List ℕ) (i : ℕ) → isAimed a (drop i a) l 0 ≡ isAimed a a l i
+aimed-here a l i = rw (be-here a i 4 4, getD-drop i a 20 0, be-here a i 23 4, be-here a i 20 3)
 
 in-list : (x : ℕ) (l : List ℕ) → isIn x l ≡ true → In x l
 in-list x [] e = absurd (true≢false (sym e))
@@ -209,8 +225,8 @@ in-list x (y ∷ l) e = go (eqb x y) refl e (in-list x l)
     go true q t r = top (eqb-true x y q)
     go false q t r = pop (r t)
 
-module _ (a l : List ℕ) (p i : ℕ) (e : isRecord a p i ≡ true) (f : cond (eqb (class a i) 3) (isAimed a l i) true ≡ true) where
-  aimed : class a i ≡ 3 → isAimed a l i ≡ true
+module _ (a l : List ℕ) (p i : ℕ) (e : isRecord a p i ≡ true) (f : cond (eqb (class a i) 3) (isAimed a a l i) true ≡ true) where
+  aimed : class a i ≡ 3 → isAimed a a l i ≡ true
   aimed o = rw (eq-eqb (class a i) 3 o) at f
 
   aims : class a i ≡ 3 → Aims a l i
@@ -232,9 +248,11 @@ records-are : (a : List ℕ) (i p : ℕ) (l : List ℕ) → isRecords a i p l �
 records-are a i p [] e = none (eqb-true i (declared a) e)
 records-are a i p (j ∷ l) e =
     let u = and-true (eqb j i) _ e in
-    let v = and-true (isRecord a p i) _ (u .1) in
-    let w = and-true (cond (eqb (class a i) 3) (isAimed a l i) true) _ (v .1) in
-    rw (eqb-true j i (u .0)) (more (is-record a l p i (v .0) (w .0)) (aims a l p i (v .0) (w .0)) (records-are a (i + size a i) (class a i) l (w .1)))
+    let v = and-true (isRecord (drop i a) p 0) _ (u .1) in
+    let w = and-true (cond (eqb (class (drop i a) 0) 3) (isAimed a (drop i a) l 0) true) _ (v .1) in
+    let r = sym (record-here a p i) ∙ v .0 in
+    let m = rw (class-here a i, aimed-here a l i) at (w .0) in
+    rw (eqb-true j i (u .0)) (more (is-record a l p i r m) (aims a l p i r m) (records-are a (i + size a i) (class a i) l (rw (class-here a i, be-here a i 4 4) at (w .1))))
 
 -- ---- A PRODUCT, whose records after the first start at the bytes of l
 abbrev isSums : List ℕ → Bool

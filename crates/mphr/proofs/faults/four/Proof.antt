@@ -4,9 +4,6 @@ use native.Mathlib.Omega.{arith}
 use borrow.Author.Needs.{needs}
 use Rattle.mphr.proofs.faults.four.Statement.{statement}
 use Rattle.mphr.proofs.faults.four.Tie as tie
-use Rattle.mphr.proofs.faults.four.Reads as reads
-use Rattle.mphr.proofs.faults.four.Lts as lts
-use Rattle.mphr.proofs.faults.wide.Reads as wide-reads
 
 shared-slice-read-wide : tie.Need-shared-slice-read-wide
 shared-slice-read-wide c = search needs

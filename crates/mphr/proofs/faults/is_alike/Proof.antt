@@ -8,9 +8,6 @@ use denote.Ref.{now}
 use borrow.Author.Needs.{needs}
 use Rattle.mphr.proofs.faults.is_alike.Statement.{statement}
 use Rattle.mphr.proofs.faults.is_alike.Tie as tie
-use Rattle.mphr.proofs.faults.is_alike.Reads as reads
-use Rattle.mphr.proofs.faults.is_alike.Lts as lts
-use Rattle.mphr.proofs.faults.eight.Reads as eight-reads
 
 abbrev St : tie.After-eight2 → tie.Start
 St c = c .before .before .before .before

@@ -19,9 +19,10 @@ use Rattle.mphr.specs.Layout.{widthOf, kindOf, lineStart}
 use Rattle.mphr.specs.Lines.{textFits, numberFits, timeFits, isLong, textOn, numberOn, timeOn, WritesTextLine, WritesNumberLine, WritesTimeLine}
 use Rattle.mphr.proofs.WritingLaws.{on-both, is-text}
 use Rattle.mphr.proofs.LineBack.{Stands, line-written, text-line-back, number-line-back, time-line-back}
-use Rattle.judge.specs.Table.{Clean}
+use Rattle.tables.proofs.Laws.{stays-clean}
+use Rattle.judge.specs.Table.{Clean, table}
+use Rattle.judge.proofs.Local.{lawful}
 use Rattle.demands.specs.Product.{Meets}
-use Rattle.demands.proofs.Prefix.{stays-clean}
 use Rattle.demands.proofs.Accepted.{meets-complete}
 use Rattle.query.specs.Query.{mainPart, sortOf, numbers, texts, timesOf, FieldOf, Allowed, valueStart, FieldIs, numberIn, NumberIs, timeIn, TimeIs}
 use Rattle.query.specs.declared.FieldAnswer.{FieldAnswer}
@@ -61,7 +62,7 @@ module _ {b : List ℕ} (m : Meets b) where
   come = meets-complete m .header
 
   main-clean : Clean (mainPart b)
-  main-clean = let e = take-append-drop 3307 b in stays-clean (take 3307 b) (drop 3307 b) (rw e (meets-complete m .clean))
+  main-clean = let e = take-append-drop 3307 b in stays-clean table lawful (take 3307 b) (drop 3307 b) (rw e (meets-complete m .clean))
 
   allowed : {k sort : ℕ} → FieldOf k sort → Allowed b k sort
   allowed f = record { clean = main-clean; come = come; field = f }

@@ -1,6 +1,7 @@
 pub mod Laws
 pub mod Meaning
 pub mod Exact
+pub mod Value
 pub mod Alike
 pub mod Same
 pub mod Back

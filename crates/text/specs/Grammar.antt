@@ -1,10 +1,12 @@
--- The grammar of field values, as 01 says it under "Kinds". Decided by specs/Field.antt: the two agree both ways (proofs/Meaning.antt).
+-- The grammar of field values, as 01 says it under "Kinds", and the value of a number. Decided by specs/Field.antt: the two agree both ways
+-- (proofs/Meaning.antt, proofs/Value.antt).
 -- Assumes nothing.
-use Prim.Native.Nat.{ℕ, _+_, _≤_, _<_}
+use Prim.Native.Nat.{ℕ, suc, _+_, _*_, _-_, _≤_, _<_}
 use mathlib.Core.Path.{_≡_}
 use mathlib.Core.Bool.{Bool, true, false}
 use mathlib.Core.List.{List}
 use mathlib.Core.Logic.{_⊎_}
+use lib.IntN.{ℤ, pos, negℤ}
 use lib.ListN.{getD}
 use Rattle.calendar.specs.Calendar.{date, daysIn}
 use Rattle.meter.specs.General.{numberOf, lastSecond}
@@ -30,6 +32,19 @@ pub record NumberIn (signed : Bool) (a : List ℕ) (i w : ℕ) : Type 0 where
   pub blank : (j : ℕ) → j < spaces → getD a (i + j) 0 ≡ 32
   pub either : (sign ≡ 0) ⊎ ((sign ≡ 1) × (signed ≡ true) × ((getD a (i + spaces) 0 ≡ 43) ⊎ (getD a (i + spaces) 0 ≡ 45)))
   pub digits : (j : ℕ) → spaces + sign ≤ j → j < w → In 48 57 (getD a (i + j) 0)
+
+-- the n bytes from i on are the digits of v: each counts ten times the one after it
+pub data DigitsOf (a : List ℕ) (i : ℕ) : ℕ → ℕ → Type 0 where
+  none : DigitsOf a i 0 0
+  digit : {n v d : ℕ} → DigitsOf a i n v → d ≤ 9 → getD a (i + n) 0 ≡ 48 + d → DigitsOf a i (suc n) (v * 10 + d)
+
+-- a number, and its value z: what its digits say, below 0 where its sign is a minus
+pub record NumberOf (signed : Bool) (a : List ℕ) (i w : ℕ) (z : ℤ) : Type 0 where
+  pub form : NumberIn signed a i w
+  pub size : ℕ
+  pub digits : DigitsOf a (i + (form .spaces + form .sign)) (w - (form .spaces + form .sign)) size
+  pub minus : getD a (i + form .spaces) 0 ≡ 45 → z ≡ negℤ (pos size)
+  pub plain : (getD a (i + form .spaces) 0 ≡ 45 → ⊥) → z ≡ pos size
 
 -- n digits, 14 or 17, and Z: a date of the Gregorian calendar, years 0000 to 9999, the hour, the minute, the second, which is 60 only in a leap
 -- second, and with 17 the millisecond

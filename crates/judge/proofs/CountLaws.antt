@@ -3,7 +3,7 @@
 use Prim.Native.Nat.{ℕ, _+_, _-_, _*_, _≤_, _<_}
 use native.Mathlib.Omega.{arith}
 use native.Mathlib.Decide.{ℕ-discrete}
-use mathlib.Core.Path.{_≡_}
+use mathlib.Core.Path.{_≡_, sym, _∙_}
 use mathlib.Core.Bool.{false}
 use mathlib.Core.List.{List}
 use lib.ListN.{length, getD, set, length-set}
@@ -11,7 +11,7 @@ use lib.Seq.{getD-set-same, getD-set-other}
 use Rattle.meter.specs.General.{numberOf}
 use Rattle.text.proofs.Exact.{is-small}
 use Rattle.mphr.specs.Table.{declared, total, Fine}
-use Rattle.mphr.proofs.LineLaws.{size-number, total-number}
+use Rattle.mphr.proofs.LineLaws.{size-number, declared-is, total-number, total-is}
 use Rattle.mphr.proofs.Export.{clean-fine, fine-valued, sized}
 use Rattle.judge.specs.Turning.{Begun, CountAt, Totals}
 
@@ -29,15 +29,13 @@ pub size-within : {a : List ℕ} → Begun a → (3307 ≤ declared a) × (decla
 size-within b = sized (begun-fine b)
 
 pub total-small : {a : List ℕ} → Begun a → (j : ℕ) → j < 9 → total a j < 1000000
-unfolding total
-total-small {a} b j h = is-small false a (2675 + 39 * j) 6 (total-count b j h .number)
+total-small {a} b j h = rw (total-is a j h) (is-small false a (2675 + 39 * j) 6 (total-count b j h .number))
 
--- the first j totals are in
 -- what is read there is D
 pub size-said : {a : List ℕ} {n : ℕ} → Begun a → (CountAt a 1485 11 → n ≡ numberOf a 1485 11) → (n ≡ declared a) × (3307 ≤ n) × (n ≤ 2147483647)
-unfolding declared
-size-said {a} b e = let z = size-within b in let q = e (size-count b) in (q, omega (arith, z .0, q), omega (arith, z .1, q))
+size-said {a} b e = let z = size-within b in let q = e (size-count b) ∙ sym (declared-is a) in (q, omega (arith, z .0, q), omega (arith, z .1, q))
 
+-- the first j totals are in
 pub record Placed (a t : List ℕ) (j : ℕ) : Type 0 where
   pub within : j ≤ 9
   pub nine : length t ≡ 9

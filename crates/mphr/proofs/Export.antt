@@ -15,7 +15,7 @@ use Rattle.tables.proofs.Passing.{holds, passes}
 use Rattle.text.specs.Field.{isValue, numberReadAt}
 use Rattle.text.specs.declared.Number.the-variants as N
 use Rattle.text.proofs.Exact.{count-read}
-use Rattle.mphr.proofs.LineLaws.{size-number, total-number}
+use Rattle.mphr.proofs.LineLaws.{size-number, declared-is, total-number, total-is}
 use Rattle.mphr.proofs.TurnLaws.{shown-most}
 
 -- the whole header shows each of its faults
@@ -74,9 +74,9 @@ fine-early f (bad-times e) = refl
 
 -- THE SIZE AND THE TOTALS are what text's number reader answers of their fields
 pub size-read : {a : List ℕ} → Fine a → 1497 ≤ length a → numberReadAt false 11 a 1485 ≡ answer (N.Whole (pos (declared a)))
-unfolding declared isValue
-size-read {a} f h = count-read a 1485 11 (size-number a (fine-valued f 28 (omega arith))) (omega arith) (omega arith)
+unfolding isValue
+size-read {a} f h = rw (declared-is a) (count-read a 1485 11 (size-number a (fine-valued f 28 (omega arith))) (omega arith) (omega arith))
 
 pub total-read : {a : List ℕ} → Fine a → 2994 ≤ length a → (j : ℕ) → j < 9 → numberReadAt false 6 a (2675 + 39 * j) ≡ answer (N.Whole (pos (total a j)))
-unfolding total isValue
-total-read {a} f h j l = count-read a (2675 + 39 * j) 6 (total-number a j l (fine-valued f (55 + j) (omega arith))) (omega arith) (omega arith)
+unfolding isValue
+total-read {a} f h j l = rw (total-is a j l) (count-read a (2675 + 39 * j) 6 (total-number a j l (fine-valued f (55 + j) (omega arith))) (omega arith) (omega arith))

@@ -9,13 +9,13 @@ use lib.Dec.{T, eqb, eqb→eq}
 use lib.ListN.{length, getD}
 use borrow.Author.Tests.{eq-eqb, ne-eqb, le-leb}
 use Rattle.calendar.proofs.Range.{below, at}
-use Rattle.meter.specs.General.{lead}
+use Rattle.meter.specs.General.{lead, numberOf}
 use Rattle.meter.specs.Lent.{inside}
 use Rattle.meter.proofs.GeneralRuns.{lead-is}
 use Rattle.text.specs.Field.{isNumber, isValue}
 use Rattle.text.specs.declared.Kind.{Kind}
 use Rattle.text.specs.declared.Kind.the-variants.{Text, Unsigned, Count, Signed, Time, LongTime}
-use Rattle.mphr.specs.Table.{named, framed, valued}
+use Rattle.mphr.specs.Table.{named, framed, valued, declared, total}
 use Rattle.mphr.specs.Layout.{fields, widths, kinds, names, widthOf, kindOf, lineStart}
 use Rattle.mphr.proofs.LayoutLaws.{start-28, total-start}
 
@@ -83,6 +83,11 @@ size-number a v =
     let s : lineStart 28 + 32 ≡ 1485 = omega (arith, start-28) in
     sym (count-is (kindOf 28) a 1485 11 size-kind) ∙ rw (s, size-width) at v
 
+-- D stands at 1485
+pub declared-is : (a : List ℕ) → declared a ≡ numberOf a 1485 11
+unfolding declared
+declared-is a = let s : lineStart 28 + 32 ≡ 1485 = omega (arith, start-28) in rw (s, size-width)
+
 total-kinds : T (below (λ (j : ℕ). isCount (kindOf (55 + j))) 9)
 unfolding isCount kindOf kinds fields
 total-kinds = tt
@@ -91,8 +96,15 @@ total-widths : T (below (λ (j : ℕ). eqb (widthOf (55 + j)) 6) 9)
 unfolding widthOf widths fields
 total-widths = tt
 
+total-width : (j : ℕ) → j < 9 → widthOf (55 + j) ≡ 6
+total-width j h = eqb→eq (widthOf (55 + j)) 6 (at (λ (j : ℕ). eqb (widthOf (55 + j)) 6) 9 total-widths j h)
+
+-- the totals stand from 2675 on
+pub total-is : (a : List ℕ) (j : ℕ) → j < 9 → total a j ≡ numberOf a (2675 + 39 * j) 6
+unfolding total
+total-is a j h = rw (total-start j h, total-width j h)
+
 pub total-number : (a : List ℕ) (j : ℕ) → j < 9 → valued a (55 + j) ≡ true → isNumber false a (2675 + 39 * j) 6 ≡ true
 unfolding valued
 total-number a j h v =
-    let w : widthOf (55 + j) ≡ 6 = eqb→eq (widthOf (55 + j)) 6 (at (λ (j : ℕ). eqb (widthOf (55 + j)) 6) 9 total-widths j h) in
-    sym (count-is (kindOf (55 + j)) a (2675 + 39 * j) 6 (at (λ (j : ℕ). isCount (kindOf (55 + j))) 9 total-kinds j h)) ∙ rw (total-start j h, w) at v
+    sym (count-is (kindOf (55 + j)) a (2675 + 39 * j) 6 (at (λ (j : ℕ). isCount (kindOf (55 + j))) 9 total-kinds j h)) ∙ rw (total-start j h, total-width j h) at v

@@ -22,6 +22,7 @@ use Rattle.mphr.specs.Table.{headed, timed, named, framed, valued, decla
 use Rattle.mphr.specs.declared.faults.HeaderFault.{HeaderFault}
 use Rattle.mphr.specs.declared.faults.HeaderFault.the-variants as F
 use Rattle.mphr.proofs.LayoutLaws.{start-next, start-mono, start-64, start-29}
+use Rattle.mphr.proofs.LineLaws.{declared-is, total-is}
 use Rattle.mphr.proofs.TurnLaws.{shown-most}
 
 module _ (a b : List ℕ) (k : ℕ) (same : Same a b k) where
@@ -50,12 +51,10 @@ module _ (a b : List ℕ) (k : ℕ) (same : Same a b k) where
   valued-same l g h = let e = start-next l in value-same same (kindOf l) (lineStart l + 32) (widthOf l) (omega arith)
 
   pub declared-same : 1497 ≤ k → declared a ≡ declared b
-  unfolding declared
-  declared-same h = number-same same 1485 11 (omega arith)
+  declared-same h = declared-is a ∙ number-same same 1485 11 (omega arith) ∙ sym (declared-is b)
 
   pub total-same : 2994 ≤ k → (j : ℕ) → j ≤ 8 → total a j ≡ total b j
-  unfolding total
-  total-same h j l = number-same same (2675 + 39 * j) 6 (omega arith)
+  total-same h j l = total-is a j (omega arith) ∙ number-same same (2675 + 39 * j) 6 (omega arith) ∙ sym (total-is b j (omega arith))
 
   sum-same : 2994 ≤ k → (n : ℕ) → n ≤ 8 → sum a n ≡ sum b n
   unfolding sum

@@ -38,13 +38,17 @@ framed a k =
 unfoldable pub valued : List ℕ → ℕ → Bool
 valued a k = isValue (kindOf k) a (lineStart k + 32) (widthOf k)
 
--- D, the size that the product declares: the number of line 28
-unfoldable pub declared : List ℕ → ℕ
-declared a = numberOf a 1485 11
+-- the number of line k
+abbrev pub numberOn : List ℕ → ℕ → ℕ
+numberOn a k = numberOf a (lineStart k + 32) (widthOf k)
 
--- the totals: 0 of the records, and 1 to 8 of each class; line 55 has the first
+-- D, the size that the product declares: ACTUAL_PRODUCT_SIZE, line 28
+unfoldable pub declared : List ℕ → ℕ
+declared a = numberOn a 28
+
+-- the totals: TOTAL_RECORDS, line 55, and 1 to 8 of each class in the lines after it
 unfoldable pub total : List ℕ → ℕ → ℕ
-total a j = numberOf a (2675 + 39 * j) 6
+total a j = numberOn a (55 + j)
 
 -- the sum of the totals 1 to n
 unfoldable pub sum : List ℕ → ℕ → ℕ

@@ -2,7 +2,8 @@
 use Prim.Native.Nat.{_-_}
 use native.Mathlib.Omega.{arith}
 use borrow.Author.Needs.{needs}
-use Rattle.mphr.specs.Table.{total}
+use mathlib.Core.Path.{sym, _∙_}
+use Rattle.mphr.proofs.LineLaws.{total-is}
 use Rattle.judge.proofs.CountLaws.{total-count, Placed, put-first, put-next, put-last}
 use Rattle.judge.proofs.arrival.put_totals.Statement.{statement}
 use Rattle.judge.proofs.arrival.put_totals.Tie as tie
@@ -38,10 +39,9 @@ loop-less : tie.Need-loop-less Inv-loop μ-loop
 loop-less c = omega arith
 
 loop-again : tie.Need-loop-again Inv-loop μ-loop
-unfolding total
 loop-again c =
     let l = c .before .before .loop in
-    put-next (l .inv) (c .before .loop-test .taken) (λ b. c .count-at .ensures (total-count b (l .j) (c .before .loop-test .taken)))
+    put-next (l .inv) (c .before .loop-test .taken) (λ b. c .count-at .ensures (total-count b (l .j) (c .before .loop-test .taken)) ∙ sym (total-is (l .s) (l .j) (c .before .loop-test .taken)))
 
 same-length : tie.Need-same-length Inv-loop μ-loop
 same-length c = omega (arith, c .before .loop .inv .nine, c .before .before .before .before .pre)

@@ -3,6 +3,7 @@ use denote.Ref.{now}
 use borrow.Author.Needs.{needs}
 use Rattle.text.proofs.Exact.{count-is}
 use Rattle.mphr.specs.Table.{declared}
+use Rattle.mphr.proofs.LineLaws.{declared-is}
 use mathlib.Core.Logic.{inl, inr}
 use native.Mathlib.Omega.{arith}
 use mathlib.Core.Path.{_≡_, refl, sym, _∙_}
@@ -14,11 +15,10 @@ count-at-requires c κs = search needs
 
 -- D
 size-is : (c : tie.After-count-at) → c .count-at .result ≡ declared (now (c .before .before .before .args .s))
-unfolding declared
 size-is c =
     let t = c .before in
     let p = t .before .before .pre .0 (t .if1 .taken) in
-    c .count-at .ensures ∙ count-is (now (t .before .before .args .s)) 1485 11 (p .1) (omega arith) (omega (arith, p .0))
+    c .count-at .ensures ∙ count-is (now (t .before .before .args .s)) 1485 11 (p .1) (omega arith) (omega (arith, p .0)) ∙ sym (declared-is (now (t .before .before .args .s)))
 
 returns : tie.Need-returns
 returns c =

@@ -3,9 +3,9 @@ use Prim.Native.Nat.{_+_, _*_}
 use denote.Ref.{now}
 use mathlib.Core.Bool.{false}
 use Rattle.text.proofs.Exact.{count-is, is-small}
-use Rattle.mphr.specs.Table.{total}
+use Rattle.mphr.proofs.LineLaws.{total-is}
 use native.Mathlib.Omega.{arith}
-use mathlib.Core.Path.{_∙_}
+use mathlib.Core.Path.{sym, _∙_}
 use borrow.Author.Needs.{needs}
 use Rattle.mphr.proofs.faults.total_of.Statement.{statement}
 use Rattle.mphr.proofs.faults.total_of.Tie as tie
@@ -20,12 +20,11 @@ count-at-requires : tie.Need-count-at-requires
 count-at-requires c κs = search needs
 
 returns : tie.Need-returns
-unfolding total
 returns c =
     let s = c .before .before in
     let n = s .pre .1 .counts (s .args .j) (omega arith) in
     let e = c .count-at .ensures ∙ count-is (now (s .args .s)) (2675 + 39 * s .args .j) 6 n (omega arith) (omega (arith, s .pre .1 .come)) in
-    (e, omega (arith, e, is-small false (now (s .args .s)) (2675 + 39 * s .args .j) 6 n))
+    (e ∙ sym (total-is (now (s .args .s)) (s .args .j) (omega arith)), omega (arith, e, is-small false (now (s .args .s)) (2675 + 39 * s .args .j) 6 n))
 
 pub total-of-spec : {M : Type 1} → statement M
 total-of-spec = tie.close (tie.spec mul-count-at add-count-at count-at-requires returns)

@@ -31,9 +31,12 @@ size-within b = sized (begun-fine b)
 pub total-small : {a : List ℕ} → Begun a → (j : ℕ) → j < 9 → total a j < 1000000
 total-small {a} b j h = rw (total-is a j h) (is-small false a (2675 + 39 * j) 6 (total-count b j h .number))
 
--- what is read there is D
+-- what is read there is D, and the totals
 pub size-said : {a : List ℕ} {n : ℕ} → Begun a → (CountAt a 1485 11 → n ≡ numberOf a 1485 11) → (n ≡ declared a) × (3307 ≤ n) × (n ≤ 2147483647)
 size-said {a} b e = let z = size-within b in let q = e (size-count b) ∙ sym (declared-is a) in (q, omega (arith, z .0, q), omega (arith, z .1, q))
+
+pub total-said : {a : List ℕ} {j n : ℕ} → Begun a → j < 9 → (CountAt a (2675 + 39 * j) 6 → n ≡ numberOf a (2675 + 39 * j) 6) → n ≡ total a j
+total-said {a} {j} b h e = e (total-count b j h) ∙ sym (total-is a j h)
 
 -- the first j totals are in
 pub record Placed (a t : List ℕ) (j : ℕ) : Type 0 where

@@ -160,16 +160,16 @@ module _ {a : List ℕ} {n i p : ℕ} {tl : List ℕ} (t : Turn a (site n i p tl
 
   module _ {v : ℕ} (k : Ranked a p i tl v) where
     pub sounds : 9 < v → Sound a i
-    sounds h = holds (sound? a i) (λ c. omega (arith, k .nine c))
+    sounds h = holds (sound? a i) (λ c. omega (arith, k .nine .least c))
 
     -- of what the header shows nothing is numbered lower than the rank
     floor-own : (w : Wrong a x) → v ≤ rowAt w .number
     floor-own (part-left m q) = absurd (omega arith)
-    floor-own (unknown _ c) = k .seven c
-    floor-own (misplaced _ c) = k .eight c
-    floor-own (bad-size _ c) = k .nine c
-    floor-own (bad-times _ c) = k .ten c
-    floor-own (surplus _ c) = k .eleven c
+    floor-own (unknown _ c) = k .seven .least c
+    floor-own (misplaced _ c) = k .eight .least c
+    floor-own (bad-size _ c) = k .nine .least c
+    floor-own (bad-times _ c) = k .ten .least c
+    floor-own (surplus _ c) = k .eleven .least c
     floor-own (bad-target s o c) = omega (arith, k .high)
     floor-own (points-inside q w _ b u e) = omega (arith, k .high)
     floor-own (points-at-other q w _ b e c) = omega (arith, k .high)
@@ -177,13 +177,13 @@ module _ {a : List ℕ} {n i p : ℕ} {tl : List ℕ} (t : Turn a (site n i p tl
 
     pub floor : {g : Fault a} → View a x g → shown g ≡ i + 20 → v ≤ number g
     floor (own w) f = floor-own w
-    floor (six s m q) f = k .six (record { short = omega arith; other = λ o. omega (arith, s .ipr o); more = omega arith; part = omega arith })
+    floor (six s m q) f = k .six .least (record { short = omega arith; other = λ o. omega (arith, s .ipr o); more = omega arith; part = omega arith })
     floor (later s l e) f = omega (arith, k .high, e (omega (arith, s .least)))
     floor end f = absurd (omega arith)
 
     pub refuse-6-head : v ≡ 6 → i + 20 ≤ length a → Gives a (fault 6 (i + 20) (i + 20))
     refuse-6-head e l =
-        let z = k .is-six e in
+        let z = k .six .is e in
         let s : Sound a i = record { room = r; least = omega (arith, z .short); most = omega (arith, z .short, z .more); ipr = λ o. absurd (z .other o) } in
         give (at (t .fine) (next a x) (snoc (t .way) s) (part-left (omega (arith, z .short, z .more)) (omega (arith, z .short, z .part)))) (ap (λ (j : ℕ). fault 6 (i + j) (i + j)) (z .short)) l
         (λ g w. (soonest w, λ d. (omega (arith, floor w d), λ m. omega (arith, shows g .on-six m))))
@@ -196,11 +196,11 @@ module _ {a : List ℕ} {n i p : ℕ} {tl : List ℕ} (t : Turn a (site n i p tl
         numbered e = ap (λ (m : ℕ). fault m i (i + 20)) e
 
         go : Dec (v ≤ 7) → Dec (v ≤ 8) → Dec (v ≤ 9) → Dec (v ≤ 10) → (w : Wrong a x) × (rowAt w ≡ fault v i (i + 20))
-        go (yes h) _ _ _ = (unknown r (k .is-seven (omega arith)), numbered (omega arith))
-        go (no h) (yes j) _ _ = (misplaced r (k .is-eight (omega arith)), numbered (omega arith))
-        go (no h) (no j) (yes m) _ = (bad-size r (k .is-nine (omega arith)), numbered (omega arith))
-        go (no h) (no j) (no m) (yes q) = (bad-times r (k .is-ten (omega arith)), numbered (omega arith))
-        go (no h) (no j) (no m) (no q) = (surplus r (k .is-eleven (omega arith)), numbered (omega arith))
+        go (yes h) _ _ _ = (unknown r (k .seven .is (omega arith)), numbered (omega arith))
+        go (no h) (yes j) _ _ = (misplaced r (k .eight .is (omega arith)), numbered (omega arith))
+        go (no h) (no j) (yes m) _ = (bad-size r (k .nine .is (omega arith)), numbered (omega arith))
+        go (no h) (no j) (no m) (yes q) = (bad-times r (k .ten .is (omega arith)), numbered (omega arith))
+        go (no h) (no j) (no m) (no q) = (surplus r (k .eleven .is (omega arith)), numbered (omega arith))
 
     pub refuse-head : 6 < v → v < 12 → i + 20 ≤ length a → Gives a (fault v i (i + 20))
     refuse-head l u s =
@@ -270,10 +270,10 @@ module _ {a : List ℕ} {n i p : ℕ} {tl : List ℕ} (t : Turn a (site n i p tl
     pub plain : 11 < v → Quiet a i (i + 1) (i + sizeAt a i) any → Quiet a i i (i + 1) (kindAt a i) → Plain a x
     plain high q o = record {
       sound = sounds (omega arith);
-      known = λ c. omega (arith, k .seven c);
-      placed = λ c. omega (arith, k .eight c);
-      timed = λ c. omega (arith, k .ten c);
-      fewer = λ c. omega (arith, k .eleven c);
+      known = λ c. omega (arith, k .seven .least c);
+      placed = λ c. omega (arith, k .eight .least c);
+      timed = λ c. omega (arith, k .ten .least c);
+      fewer = λ c. omega (arith, k .eleven .least c);
       no-inside = q;
       no-other = o;
     }

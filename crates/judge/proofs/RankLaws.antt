@@ -1,5 +1,5 @@
 -- The rank of a header from what it was found to show: the first fault that holds, in the order of the numbers, none of the lower ones holding.
--- Each law is the record's fields: what holds has no lower number, and what does not is absurd. Assumes nothing.
+-- Each of 6 to 11 by itself: it does not hold, or is the first that does, or comes later. Assumes nothing.
 use Prim.Native.Nat.{ℕ, _+_, _-_, _≤_, _<_}
 use native.Mathlib.Omega.{arith}
 use mathlib.Core.Path.{_≡_, refl, sym, _∙_, ap}
@@ -16,138 +16,46 @@ use Rattle.meter.specs.Integer.{beAt}
 use Rattle.meter.proofs.IntegerLaws.{beAt-same}
 use Rattle.meter.specs.Time.{timeAt}
 use Rattle.judge.specs.Table.{classAt, kindAt, sizeAt, Sound, Unknown, Misplaced, Surplus}
-use Rattle.judge.specs.Step.{Six, Facing, Lowest, Ranked, RankIs, Excess, Sized, SizedIs, SixLeft, SixIn}
+use Rattle.judge.specs.Step.{Six, Facing, Bears, Lowest, Ranked, RankIs, Excess, Sized, SizedIs, SixLeft, SixIn}
 
 -- a test that came out both ways
 pub clash : {P : Type 0} → false ≡ true → P
 clash e = let z : _≡_ {A = ℕ} 0 1 = cc in absurd (omega arith)
 
+-- ---- a condition that does not hold, the first that does, one with a higher number
+passed : {P : Type 0} {n r : ℕ} → (P → ⊥) → n < r → Bears P n r
+passed n h = record { least = λ p. absurd (n p); is = λ e. absurd (omega arith) }
+
+here : {P : Type 0} {n : ℕ} → P → Bears P n n
+here p = record { least = λ _. omega arith; is = λ _. p }
+
+beyond : {P : Type 0} {n r : ℕ} → r < n → Bears P n r
+beyond h = record { least = λ _. omega arith; is = λ e. absurd (omega arith) }
+
+borne : {P Q : Type 0} {n r : ℕ} → (P → Q) → (Q → P) → Bears P n r → Bears Q n r
+borne f g k = record { least = λ q. k .least (g q); is = λ e. f (k .is e) }
+
 module _ {P6 P7 P8 P9 P10 P11 : Type 0} where
   pub rank-6 : P6 → Lowest P6 P7 P8 P9 P10 P11 6
-  rank-6 p6 = record {
-    low = omega arith;
-    high = omega arith;
-    six = λ q. omega arith;
-    seven = λ q. omega arith;
-    eight = λ q. omega arith;
-    nine = λ q. omega arith;
-    ten = λ q. omega arith;
-    eleven = λ q. omega arith;
-    is-six = λ _. p6;
-    is-seven = λ q. absurd (omega arith);
-    is-eight = λ q. absurd (omega arith);
-    is-nine = λ q. absurd (omega arith);
-    is-ten = λ q. absurd (omega arith);
-    is-eleven = λ q. absurd (omega arith);
-  }
+  rank-6 p6 = record { low = omega arith; high = omega arith; six = here p6; seven = beyond (omega arith); eight = beyond (omega arith); nine = beyond (omega arith); ten = beyond (omega arith); eleven = beyond (omega arith) }
 
   pub rank-7 : (P6 → ⊥) → P7 → Lowest P6 P7 P8 P9 P10 P11 7
-  rank-7 n6 p7 = record {
-    low = omega arith;
-    high = omega arith;
-    six = λ q. absurd (n6 q);
-    seven = λ q. omega arith;
-    eight = λ q. omega arith;
-    nine = λ q. omega arith;
-    ten = λ q. omega arith;
-    eleven = λ q. omega arith;
-    is-six = λ q. absurd (omega arith);
-    is-seven = λ _. p7;
-    is-eight = λ q. absurd (omega arith);
-    is-nine = λ q. absurd (omega arith);
-    is-ten = λ q. absurd (omega arith);
-    is-eleven = λ q. absurd (omega arith);
-  }
+  rank-7 n6 p7 = record { low = omega arith; high = omega arith; six = passed n6 (omega arith); seven = here p7; eight = beyond (omega arith); nine = beyond (omega arith); ten = beyond (omega arith); eleven = beyond (omega arith) }
 
   pub rank-8 : (P6 → ⊥) → (P7 → ⊥) → P8 → Lowest P6 P7 P8 P9 P10 P11 8
-  rank-8 n6 n7 p8 = record {
-    low = omega arith;
-    high = omega arith;
-    six = λ q. absurd (n6 q);
-    seven = λ q. absurd (n7 q);
-    eight = λ q. omega arith;
-    nine = λ q. omega arith;
-    ten = λ q. omega arith;
-    eleven = λ q. omega arith;
-    is-six = λ q. absurd (omega arith);
-    is-seven = λ q. absurd (omega arith);
-    is-eight = λ _. p8;
-    is-nine = λ q. absurd (omega arith);
-    is-ten = λ q. absurd (omega arith);
-    is-eleven = λ q. absurd (omega arith);
-  }
+  rank-8 n6 n7 p8 = record { low = omega arith; high = omega arith; six = passed n6 (omega arith); seven = passed n7 (omega arith); eight = here p8; nine = beyond (omega arith); ten = beyond (omega arith); eleven = beyond (omega arith) }
 
   pub rank-9 : (P6 → ⊥) → (P7 → ⊥) → (P8 → ⊥) → P9 → Lowest P6 P7 P8 P9 P10 P11 9
-  rank-9 n6 n7 n8 p9 = record {
-    low = omega arith;
-    high = omega arith;
-    six = λ q. absurd (n6 q);
-    seven = λ q. absurd (n7 q);
-    eight = λ q. absurd (n8 q);
-    nine = λ q. omega arith;
-    ten = λ q. omega arith;
-    eleven = λ q. omega arith;
-    is-six = λ q. absurd (omega arith);
-    is-seven = λ q. absurd (omega arith);
-    is-eight = λ q. absurd (omega arith);
-    is-nine = λ _. p9;
-    is-ten = λ q. absurd (omega arith);
-    is-eleven = λ q. absurd (omega arith);
-  }
+  rank-9 n6 n7 n8 p9 = record { low = omega arith; high = omega arith; six = passed n6 (omega arith); seven = passed n7 (omega arith); eight = passed n8 (omega arith); nine = here p9; ten = beyond (omega arith); eleven = beyond (omega arith) }
 
   pub rank-10 : (P6 → ⊥) → (P7 → ⊥) → (P8 → ⊥) → (P9 → ⊥) → P10 → Lowest P6 P7 P8 P9 P10 P11 10
-  rank-10 n6 n7 n8 n9 p10 = record {
-    low = omega arith;
-    high = omega arith;
-    six = λ q. absurd (n6 q);
-    seven = λ q. absurd (n7 q);
-    eight = λ q. absurd (n8 q);
-    nine = λ q. absurd (n9 q);
-    ten = λ q. omega arith;
-    eleven = λ q. omega arith;
-    is-six = λ q. absurd (omega arith);
-    is-seven = λ q. absurd (omega arith);
-    is-eight = λ q. absurd (omega arith);
-    is-nine = λ q. absurd (omega arith);
-    is-ten = λ _. p10;
-    is-eleven = λ q. absurd (omega arith);
-  }
+  rank-10 n6 n7 n8 n9 p10 = record { low = omega arith; high = omega arith; six = passed n6 (omega arith); seven = passed n7 (omega arith); eight = passed n8 (omega arith); nine = passed n9 (omega arith); ten = here p10; eleven = beyond (omega arith) }
 
   pub rank-11 : (P6 → ⊥) → (P7 → ⊥) → (P8 → ⊥) → (P9 → ⊥) → (P10 → ⊥) → P11 → Lowest P6 P7 P8 P9 P10 P11 11
-  rank-11 n6 n7 n8 n9 n10 p11 = record {
-    low = omega arith;
-    high = omega arith;
-    six = λ q. absurd (n6 q);
-    seven = λ q. absurd (n7 q);
-    eight = λ q. absurd (n8 q);
-    nine = λ q. absurd (n9 q);
-    ten = λ q. absurd (n10 q);
-    eleven = λ q. omega arith;
-    is-six = λ q. absurd (omega arith);
-    is-seven = λ q. absurd (omega arith);
-    is-eight = λ q. absurd (omega arith);
-    is-nine = λ q. absurd (omega arith);
-    is-ten = λ q. absurd (omega arith);
-    is-eleven = λ _. p11;
-  }
+  rank-11 n6 n7 n8 n9 n10 p11 = record { low = omega arith; high = omega arith; six = passed n6 (omega arith); seven = passed n7 (omega arith); eight = passed n8 (omega arith); nine = passed n9 (omega arith); ten = passed n10 (omega arith); eleven = here p11 }
 
   pub rank-12 : (P6 → ⊥) → (P7 → ⊥) → (P8 → ⊥) → (P9 → ⊥) → (P10 → ⊥) → (P11 → ⊥) → Lowest P6 P7 P8 P9 P10 P11 12
-  rank-12 n6 n7 n8 n9 n10 n11 = record {
-    low = omega arith;
-    high = omega arith;
-    six = λ q. absurd (n6 q);
-    seven = λ q. absurd (n7 q);
-    eight = λ q. absurd (n8 q);
-    nine = λ q. absurd (n9 q);
-    ten = λ q. absurd (n10 q);
-    eleven = λ q. absurd (n11 q);
-    is-six = λ q. absurd (omega arith);
-    is-seven = λ q. absurd (omega arith);
-    is-eight = λ q. absurd (omega arith);
-    is-nine = λ q. absurd (omega arith);
-    is-ten = λ q. absurd (omega arith);
-    is-eleven = λ q. absurd (omega arith);
-  }
+  rank-12 n6 n7 n8 n9 n10 n11 = record { low = omega arith; high = omega arith; six = passed n6 (omega arith); seven = passed n7 (omega arith); eight = passed n8 (omega arith); nine = passed n9 (omega arith); ten = passed n10 (omega arith); eleven = passed n11 (omega arith) }
 
 pub and-true : (b d : Bool) → b && d ≡ true → (b ≡ true) × (d ≡ true)
 and-true true d e = (refl, e)
@@ -228,18 +136,12 @@ module _ {h a : List ℕ} {o i n : ℕ} (alike : Facing h o a i n) (twenty : 20 
     ranked-of k = record {
       low = k .low;
       high = k .high;
-      six = λ q. k .six (six-back q);
-      seven = λ q. k .seven (unknown-back q);
-      eight = λ q. k .eight (misplaced-back q);
-      nine = λ q. k .nine (λ s. q (sound-of s));
-      ten = λ q. k .ten (timed-alike ∙ q);
-      eleven = λ q. k .eleven (surplus-back q);
-      is-six = λ e. six-of (k .is-six e);
-      is-seven = λ e. unknown-of (k .is-seven e);
-      is-eight = λ e. misplaced-of (k .is-eight e);
-      is-nine = λ e s. k .is-nine e (sized-of s);
-      is-ten = λ e. sym timed-alike ∙ k .is-ten e;
-      is-eleven = λ e. surplus-of (k .is-eleven e);
+      six = borne six-of six-back (k .six);
+      seven = borne unknown-of unknown-back (k .seven);
+      eight = borne misplaced-of misplaced-back (k .eight);
+      nine = borne (λ n s. n (sized-of s)) (λ n s. n (sound-of s)) (k .nine);
+      ten = borne (λ e. sym timed-alike ∙ e) (λ e. timed-alike ∙ e) (k .ten);
+      eleven = borne surplus-of surplus-back (k .eleven);
     }
 
 both-known : {b d : Bool} → b ≡ true → d ≡ true → b && d ≡ true

@@ -28,22 +28,21 @@ pub record Six (a : List ℕ) (i : ℕ) : Type 0 where
 pub record Facing (h : List ℕ) (o : ℕ) (a : List ℕ) (i n : ℕ) : Type 0 where
   pub byte : (k : ℕ) → k < n → getD h (o + k) 0 ≡ getD a (i + k) 0
 
+-- of a condition with the number n: where it holds r is at most n, and where r is n it holds
+pub record Bears (P : Type 0) (n r : ℕ) : Type 0 where
+  pub least : P → r ≤ n
+  pub is : r ≡ n → P
+
 -- r is the lowest of 6 to 11 whose condition holds, or 12
 pub record Lowest (P6 P7 P8 P9 P10 P11 : Type 0) (r : ℕ) : Type 0 where
   pub low : 6 ≤ r
   pub high : r ≤ 12
-  pub six : P6 → r ≤ 6
-  pub seven : P7 → r ≤ 7
-  pub eight : P8 → r ≤ 8
-  pub nine : P9 → r ≤ 9
-  pub ten : P10 → r ≤ 10
-  pub eleven : P11 → r ≤ 11
-  pub is-six : r ≡ 6 → P6
-  pub is-seven : r ≡ 7 → P7
-  pub is-eight : r ≡ 8 → P8
-  pub is-nine : r ≡ 9 → P9
-  pub is-ten : r ≡ 10 → P10
-  pub is-eleven : r ≡ 11 → P11
+  pub six : Bears P6 6 r
+  pub seven : Bears P7 7 r
+  pub eight : Bears P8 8 r
+  pub nine : Bears P9 9 r
+  pub ten : Bears P10 10 r
+  pub eleven : Bears P11 11 r
 
 -- the header at byte i, after a record of class p and with the tally t, is ranked r: the lowest number of the faults that it shows by itself, 6
 -- where 1 to 19 bytes are left after its 20, or 12

@@ -2,9 +2,7 @@
 use Prim.Native.Nat.{_-_}
 use native.Mathlib.Omega.{arith}
 use borrow.Author.Needs.{needs}
-use mathlib.Core.Path.{sym, _∙_}
-use Rattle.mphr.proofs.LineLaws.{total-is}
-use Rattle.judge.proofs.CountLaws.{total-count, Placed, put-first, put-next, put-last}
+use Rattle.judge.proofs.CountLaws.{total-said, Placed, put-first, put-next, put-last}
 use Rattle.judge.proofs.arrival.put_totals.Statement.{statement}
 use Rattle.judge.proofs.arrival.put_totals.Tie as tie
 
@@ -41,7 +39,7 @@ loop-less c = omega arith
 loop-again : tie.Need-loop-again Inv-loop μ-loop
 loop-again c =
     let l = c .before .before .loop in
-    put-next (l .inv) (c .before .loop-test .taken) (λ b. c .count-at .ensures (total-count b (l .j) (c .before .loop-test .taken)) ∙ sym (total-is (l .s) (l .j) (c .before .loop-test .taken)))
+    put-next (l .inv) (c .before .loop-test .taken) (λ b. total-said b (c .before .loop-test .taken) (c .count-at .ensures))
 
 same-length : tie.Need-same-length Inv-loop μ-loop
 same-length c = omega (arith, c .before .loop .inv .nine, c .before .before .before .before .pre)

@@ -24,7 +24,9 @@ use Rattle.judge.specs.Table.{Clean, table}
 use Rattle.judge.proofs.Local.{lawful}
 use Rattle.demands.specs.Product.{Meets}
 use Rattle.demands.proofs.Accepted.{meets-complete}
-use Rattle.query.specs.Query.{mainPart, sortOf, numbers, texts, timesOf, FieldOf, Allowed, valueStart, FieldIs, numberIn, NumberIs, timeIn, TimeIs}
+use Rattle.query.specs.Query.{mainPart, sortOf, timesOf, FieldOf, Allowed, valueStart, FieldIs, numberIn, NumberIs, timeIn, TimeIs}
+use Rattle.query.specs.declared.Sort.{Sort}
+use Rattle.query.specs.declared.Sort.the-variants.{Numbers, Texts}
 use Rattle.query.specs.declared.FieldAnswer.{FieldAnswer}
 use Rattle.query.specs.declared.FieldAnswer.the-variants as F
 use Rattle.query.specs.declared.NumberAnswer.{NumberAnswer}
@@ -35,10 +37,10 @@ use Rattle.query.proofs.QueryLaws.{start-small}
 use Rattle.query.proofs.QueryDetermined.{unique-text-field, unique-number-field, unique-time-of}
 
 -- ---- the sort of a field that takes a value
-text-sort : (d : Kind) (w : ℕ) (t : List ℕ) → textFits d w t ≡ true → sortOf d ≡ texts
+text-sort : (d : Kind) (w : ℕ) (t : List ℕ) → textFits d w t ≡ true → sortOf d ≡ Texts
 text-sort d w t e = ap sortOf (is-text d w t e .0)
 
-number-sort : (d : Kind) (w : ℕ) (x : Number) → numberFits d w x ≡ true → sortOf d ≡ numbers
+number-sort : (d : Kind) (w : ℕ) (x : Number) → numberFits d w x ≡ true → sortOf d ≡ Numbers
 unfolding numberFits
 number-sort Text w x e = absurd (true≢false (sym e))
 number-sort Unsigned w x e = refl
@@ -64,7 +66,7 @@ module _ {b : List ℕ} (m : Meets b) where
   main-clean : Clean (mainPart b)
   main-clean = let e = take-append-drop 3307 b in stays-clean table lawful (take 3307 b) (drop 3307 b) (rw e (meets-complete m .clean))
 
-  allowed : {k sort : ℕ} → FieldOf k sort → Allowed b k sort
+  allowed : {k : ℕ} {sort : Sort} → FieldOf k sort → Allowed b k sort
   allowed f = record { clean = main-clean; come = come; field = f }
 
   -- the room at entry, the room at exit, the bytes answered
@@ -72,7 +74,7 @@ module _ {b : List ℕ} (m : Meets b) where
     field-come : k < 72 → lineStart k + 32 + widthOf k ≤ length b
     field-come h = omega (arith, start-small {k = k} (omega arith), come)
 
-    pub text-answered : (t : List ℕ) → WritesTextLine room k t (W.Bytes n) exit → (r : FieldAnswer) → FieldIs b k texts r → (r ≡ F.Part (valueStart k) (widthOf k)) × (take (widthOf k) (drop (valueStart k) b) ≡ t)
+    pub text-answered : (t : List ℕ) → WritesTextLine room k t (W.Bytes n) exit → (r : FieldAnswer) → FieldIs b k Texts r → (r ≡ F.Part (valueStart k) (widthOf k)) × (take (widthOf k) (drop (valueStart k) b) ≡ t)
     unfolding textOn
     text-answered t w r f =
         let d = line-written room exit n k (textOn k t) (λ (a : List ℕ). putText a t) w in

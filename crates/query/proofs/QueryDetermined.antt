@@ -11,7 +11,9 @@ use Rattle.record.specs.declared.header.Header.{Header}
 use Rattle.judge.specs.Table.{Site, Leads, here, on, Open}
 use Rattle.judge.specs.declared.arrival.Arrival.the-variants.{Waiting}
 use Rattle.query.specs.Query as Q
-use Rattle.query.specs.Query.{StartOf, RecordFound, NoRecord, not-yet, RecordIs, Denied, short, no-field, Allowed, texts, FieldIs, NumberIs, TimeIs, PointIs}
+use Rattle.query.specs.Query.{StartOf, RecordFound, NoRecord, not-yet, RecordIs, Denied, short, no-field, Allowed, FieldIs, NumberIs, TimeIs, PointIs}
+use Rattle.query.specs.declared.Sort.{Sort}
+use Rattle.query.specs.declared.Sort.the-variants.{Texts}
 use Rattle.query.specs.declared.RecordAnswer.{RecordAnswer}
 use Rattle.query.specs.declared.RecordAnswer.the-variants as R
 use Rattle.query.specs.declared.FieldAnswer.{FieldAnswer}
@@ -69,7 +71,7 @@ unique-record-at a k (R.Refused r) (R.Record j g) f e = absurd (no-and-found e f
 unique-record-at a k (R.Refused r) (R.Refused s) f e = ap R.Refused (one-refusal r s (one-no-record f e))
 
 -- ---- the field queries
-one-denied : {a : List ℕ} {k sort n p m q : ℕ} → Denied a k sort n p → Denied a k sort m q → (n ≡ m) × (p ≡ q)
+one-denied : {a : List ℕ} {k n p m q : ℕ} {sort : Sort} → Denied a k sort n p → Denied a k sort m q → (n ≡ m) × (p ≡ q)
 one-denied (Q.Denied.faulty f) (Q.Denied.faulty g) = unique-given f g
 one-denied (Q.Denied.faulty f) (short c h) = absurd (not-clean f c)
 one-denied (Q.Denied.faulty f) (no-field c h d) = absurd (not-clean f c)
@@ -80,20 +82,20 @@ one-denied (no-field c h d) (Q.Denied.faulty g) = absurd (not-clean g c)
 one-denied (no-field c h d) (short b l) = absurd (omega arith)
 one-denied (no-field c h d) (no-field b l e) = (refl, refl)
 
-no-and-yes : {a : List ℕ} {k sort n p : ℕ} → Allowed a k sort → Denied a k sort n p → ⊥
+no-and-yes : {a : List ℕ} {k n p : ℕ} {sort : Sort} → Allowed a k sort → Denied a k sort n p → ⊥
 no-and-yes w (Q.Denied.faulty g) = not-clean g (w .clean)
 no-and-yes w (short c h) = omega (arith, w .come)
 no-and-yes w (no-field c h d) = d (w .field)
 
-pub unique-field-at : (a : List ℕ) (k sort : ℕ) (r s : FieldAnswer) → FieldIs a k sort r → FieldIs a k sort s → r ≡ s
+pub unique-field-at : (a : List ℕ) (k : ℕ) (sort : Sort) (r s : FieldAnswer) → FieldIs a k sort r → FieldIs a k sort s → r ≡ s
 unique-field-at a k sort (F.Part i w) (F.Part j v) f e =
     ap (λ (n : ℕ). F.Part n w) (f .start-is ∙ sym (e .start-is)) ∙ ap (F.Part j) (f .width-is ∙ sym (e .width-is))
 unique-field-at a k sort (F.Part i w) (F.Refused s) f e = absurd (no-and-yes (f .allowed) e)
 unique-field-at a k sort (F.Refused r) (F.Part j v) f e = absurd (no-and-yes (e .allowed) f)
 unique-field-at a k sort (F.Refused r) (F.Refused s) f e = ap F.Refused (one-refusal r s (one-denied f e))
 
-pub unique-text-field : (a : List ℕ) (k : ℕ) (r s : FieldAnswer) → FieldIs a k texts r → FieldIs a k texts s → r ≡ s
-unique-text-field a k = unique-field-at a k texts
+pub unique-text-field : (a : List ℕ) (k : ℕ) (r s : FieldAnswer) → FieldIs a k Texts r → FieldIs a k Texts s → r ≡ s
+unique-text-field a k = unique-field-at a k Texts
 
 pub unique-number-field : (a : List ℕ) (k : ℕ) (r s : NumberAnswer) → NumberIs a k r → NumberIs a k s → r ≡ s
 unique-number-field a k (B.Number x) (B.Number y) f e = ap B.Number (f .1 ∙ sym (e .1))

@@ -42,9 +42,10 @@ use Rattle.mphr.proofs.LayoutLaws.{start-72, start-next, start-mono}
 use Rattle.mphr.proofs.Export.{clean-fine, fine-valued}
 use Rattle.judge.specs.Table as J
 use Rattle.judge.specs.Table.{Site, site, first, classAt, sizeAt, Sound, Leads, here, on, next, oneMore, unknown, bad-times as bad-times-at, main, Clean, Given, Open, Judged}
-use Rattle.query.specs.Query.{refusalOf, StartOf, Reachable, mainPart, sortOf, timesOf, numbers, FieldOf, Denied, faulty, short, no-field, Allowed, valueStart, PartIs, FieldIs, noField, numberIn, NumberIs, timeIn, latitudeField, thousand, degrees, pointOf, PointFound, PointIs, Exact}
+use Rattle.query.specs.Query.{StartOf, Reachable, mainPart, sortOf, timesOf, sortNumber, FieldOf, Denied, faulty, short, no-field, Allowed, valueStart, PartIs, FieldIs, noField, numberIn, NumberIs, timeIn, latitudeField, thousand, degrees, pointOf, PointFound, PointIs, Exact}
 use Rattle.judge.specs.declared.arrival.Arrival.{Arrival}
-use Rattle.judge.specs.declared.arrival.Arrival.the-variants as A
+use Rattle.query.specs.declared.Sort.{Sort}
+use Rattle.query.specs.declared.Sort.the-variants.{Numbers, Times, LongTimes, Texts}
 use Rattle.query.specs.declared.FieldAnswer.{FieldAnswer}
 use Rattle.query.specs.declared.NumberAnswer.{NumberAnswer}
 use Rattle.query.specs.declared.NumberAnswer.the-variants as B
@@ -60,11 +61,21 @@ same-answer e = cc
 pub no-answer : {A : Type 0} {r : Refusal} {y : A} → _≡_ {A = Said A} (refused r) (answer y) → ⊥
 no-answer e = let z : _≡_ {A = ℕ} 0 1 = cc in omega arith
 
--- the judge's refusal is handed on
-pub handed : {b : List ℕ} {j : Arrival} {r x : Refusal} → j ≡ A.Refused x → r ≡ refusalOf j → Judged b j → Given b (r .number) (r .place)
-handed {b} {j} {r} {x} e q g =
-    let f : r ≡ x = q ∙ ap refusalOf e in
-    rw f (rw e at g)
+-- a number tells one sort
+abbrev sortFrom : ℕ → Sort
+sortFrom zero = Numbers
+sortFrom (suc zero) = Times
+sortFrom (suc (suc zero)) = LongTimes
+sortFrom (suc (suc (suc n))) = Texts
+
+from-number : (s : Sort) → sortFrom (sortNumber s) ≡ s
+from-number Numbers = refl
+from-number Times = refl
+from-number LongTimes = refl
+from-number Texts = refl
+
+pub one-sort : {s t : Sort} → sortNumber s ≡ sortNumber t → s ≡ t
+one-sort {s} {t} e = sym (from-number s) ∙ ap sortFrom e ∙ from-number t
 
 -- ---- the walk to record k
 goes-count : {a : List ℕ} {x y : Site} → Leads a x y → x .count < y .count → Sound a (x .at) × Leads a (next a x) y
@@ -220,11 +231,11 @@ start-small {k} h =
     let m : suc k ≤ 72 = omega arith in
     omega (arith, start-next k, start-mono m, start-72)
 
-pub denied-with : {a : List ℕ} {k sort : ℕ} {r : FieldAnswer} → r ≡ noField → Denied a k sort 22 0 → FieldIs a k sort r
+pub denied-with : {a : List ℕ} {k : ℕ} {sort : Sort} {r : FieldAnswer} → r ≡ noField → Denied a k sort 22 0 → FieldIs a k sort r
 denied-with e d = rw e d
 
 -- ---- the value of a field that may be read
-module _ {a : List ℕ} {k sort : ℕ} (w : Allowed a k sort) where
+module _ {a : List ℕ} {k : ℕ} {sort : Sort} (w : Allowed a k sort) where
   value-here : isValue (kindOf k) a (valueStart k) (widthOf k) ≡ true
   unfolding valued
   value-here =
@@ -236,17 +247,17 @@ module _ {a : List ℕ} {k sort : ℕ} (w : Allowed a k sort) where
 
 -- a number's field is 11 bytes at most
 isNarrow : ℕ → Bool
-isNarrow k = not (eqb (sortOf (kindOf k)) 0) || leb (widthOf k) 11
+isNarrow k = not (eqb (sortNumber (sortOf (kindOf k))) 0) || leb (widthOf k) 11
 
 narrow : T (below isNarrow 72)
 unfolding isNarrow kindOf kinds widthOf widths fields
 narrow = tt
 
-pub number-narrow : (k : ℕ) → FieldOf k numbers → widthOf k ≤ 11
+pub number-narrow : (k : ℕ) → FieldOf k Numbers → widthOf k ≤ 11
 unfolding isNarrow
 number-narrow k f =
     let t : T (isNarrow k) = at isNarrow 72 narrow k (omega (arith, f .known)) in
-    leb→le (widthOf k) 11 (rw (eq-eqb (sortOf (kindOf k)) 0 (f .sorted)) at t)
+    leb→le (widthOf k) 11 (rw (eq-eqb (sortNumber (sortOf (kindOf k))) 0 (ap sortNumber (f .sorted))) at t)
 
 -- a number without a sign is one that may have a sign
 unsigned-signed : (a : List ℕ) (i w : ℕ) → isNumber false a i w ≡ true → isNumber true a i w ≡ true
@@ -265,21 +276,21 @@ or-true : (x y : Bool) → x || y ≡ true → (x ≡ true) ⊎ (y ≡ true)
 or-true true y e = inl refl
 or-true false y e = inr e
 
-number-or-x : (d : Kind) (a : List ℕ) (i w : ℕ) → sortOf d ≡ 0 → isValue d a i w ≡ true → (isNumber true a i w ≡ true) ⊎ (isX a i w ≡ true)
+number-or-x : (d : Kind) (a : List ℕ) (i w : ℕ) → sortOf d ≡ Numbers → isValue d a i w ≡ true → (isNumber true a i w ≡ true) ⊎ (isX a i w ≡ true)
 unfolding isValue
 number-or-x Unsigned a i w s v = ⊎-elim (λ e. inl (unsigned-signed a i w e)) inr (or-true _ _ v)
 number-or-x Count a i w s v = inl (unsigned-signed a i w v)
 number-or-x Signed a i w s v = or-true _ _ v
-number-or-x Text a i w s v = absurd (omega arith)
-number-or-x Time a i w s v = absurd (omega arith)
-number-or-x LongTime a i w s v = absurd (omega arith)
+number-or-x Text a i w s v = absurd (omega (arith, ap sortNumber s))
+number-or-x Time a i w s v = absurd (omega (arith, ap sortNumber s))
+number-or-x LongTime a i w s v = absurd (omega (arith, ap sortNumber s))
 
 x-or : (x y : Bool) → (y ≡ true) ⊎ (x ≡ true) → x || y ≡ true
 x-or true y e = refl
 x-or false y (inl e) = e
 x-or false y (inr e) = absurd (true≢false (sym e))
 
-pub number-read : {a : List ℕ} {k i w : ℕ} → PartIs a k numbers i w → numberReadAt true w a i ≡ answer (numberIn a k)
+pub number-read : {a : List ℕ} {k i w : ℕ} → PartIs a k Numbers i w → numberReadAt true w a i ≡ answer (numberIn a k)
 number-read {a} {k} p =
     let al = p .allowed in
     let i = valueStart k in
@@ -290,17 +301,17 @@ number-read {a} {k} p =
 time-value : (d : Kind) (long : Bool) (a : List ℕ) (i w : ℕ) → sortOf d ≡ timesOf long → isValue d a i w ≡ true → (w ≡ digitsOf long + 1) × (isGeneral (digitsOf long) a i ≡ true)
 unfolding isValue
 time-value Time false a i w s v = let p = both _ _ v in (eqb-true w 15 (p .0), p .1)
-time-value Time true a i w s v = absurd (omega arith)
+time-value Time true a i w s v = absurd (omega (arith, ap sortNumber s))
 time-value LongTime true a i w s v = let p = both _ _ v in (eqb-true w 18 (p .0), p .1)
-time-value LongTime false a i w s v = absurd (omega arith)
-time-value Unsigned false a i w s v = absurd (omega arith)
-time-value Unsigned true a i w s v = absurd (omega arith)
-time-value Count false a i w s v = absurd (omega arith)
-time-value Count true a i w s v = absurd (omega arith)
-time-value Signed false a i w s v = absurd (omega arith)
-time-value Signed true a i w s v = absurd (omega arith)
-time-value Text false a i w s v = absurd (omega arith)
-time-value Text true a i w s v = absurd (omega arith)
+time-value LongTime false a i w s v = absurd (omega (arith, ap sortNumber s))
+time-value Unsigned false a i w s v = absurd (omega (arith, ap sortNumber s))
+time-value Unsigned true a i w s v = absurd (omega (arith, ap sortNumber s))
+time-value Count false a i w s v = absurd (omega (arith, ap sortNumber s))
+time-value Count true a i w s v = absurd (omega (arith, ap sortNumber s))
+time-value Signed false a i w s v = absurd (omega (arith, ap sortNumber s))
+time-value Signed true a i w s v = absurd (omega (arith, ap sortNumber s))
+time-value Text false a i w s v = absurd (omega (arith, ap sortNumber s))
+time-value Text true a i w s v = absurd (omega (arith, ap sortNumber s))
 
 pub time-read : {a : List ℕ} {k i w : ℕ} (long : Bool) → PartIs a k (timesOf long) i w → generalReadAt long a i ≡ answer (timeIn a k long)
 time-read {a} {k} long p =
@@ -318,7 +329,7 @@ sign-size : (b : Bool) (n : ℕ) → natAbs (cond b (negℤ (pos n)) (pos n)) �
 sign-size true n = minus-size n
 sign-size false n = refl
 
-pub number-exact : {a : List ℕ} {k : ℕ} → Allowed a k numbers → Exact (numberIn a k)
+pub number-exact : {a : List ℕ} {k : ℕ} → Allowed a k Numbers → Exact (numberIn a k)
 number-exact {a} {k} al = go (isX a i w) refl (number-or-x (kindOf k) a i w (al .field .sorted) (value-here al))
   where
     i : ℕ
@@ -336,10 +347,10 @@ number-exact {a} {k} al = go (isX a i w) refl (number-or-x (kindOf k) a i w (al 
 pub judged-at : {b d : List ℕ} {q r : Arrival} → b ≡ d → q ≡ r → Judged b q → Judged d r
 judged-at e f j = rw (e, f) at j
 
-pub short-at : {a : List ℕ} {k sort n : ℕ} → n ≡ length a → Clean (mainPart a) → n < 3307 → Denied a k sort 17 n
+pub short-at : {a : List ℕ} {k n : ℕ} {sort : Sort} → n ≡ length a → Clean (mainPart a) → n < 3307 → Denied a k sort 17 n
 short-at e c h = let l = rw e at h in rw e (short c l)
 
-pub field-sort : (a : List ℕ) (k : ℕ) {s t : ℕ} {q r : FieldAnswer} → s ≡ t → q ≡ r → FieldIs a k s q → FieldIs a k t r
+pub field-sort : (a : List ℕ) (k : ℕ) {s t : Sort} {q r : FieldAnswer} → s ≡ t → q ≡ r → FieldIs a k s q → FieldIs a k t r
 field-sort a k e f h = rw (e, f) at h
 
 pub number-at : (a : List ℕ) {k l : ℕ} {q r : NumberAnswer} → k ≡ l → q ≡ r → NumberIs a k q → NumberIs a l r
@@ -367,12 +378,12 @@ number-is-exact n = rw (n .1) (number-exact (n .0))
 pub point-whole : {p q : Number} {y x u v : ℤ} → p ≡ N.Whole y → q ≡ N.Whole x → u ≡ y → v ≡ x → _≡_ {A = PointAnswer} (P.Point (record { latitude = degrees u; longitude = degrees v })) (pointOf p q)
 point-whole e f g h = rw (e, f, g, h)
 
-there : (end : Bool) → FieldOf (latitudeField end + 1) numbers
+there : (end : Bool) → FieldOf (latitudeField end + 1) Numbers
 unfolding kindOf kinds fields
 there true = record { known = omega arith; sorted = refl }
 there false = record { known = omega arith; sorted = refl }
 
-pub denied-both : {a : List ℕ} {n p : ℕ} (end : Bool) → Denied a (latitudeField end + 1) numbers n p → Denied a (latitudeField end) numbers n p
+pub denied-both : {a : List ℕ} {n p : ℕ} (end : Bool) → Denied a (latitudeField end + 1) Numbers n p → Denied a (latitudeField end) Numbers n p
 denied-both end (faulty g) = faulty g
 denied-both end (short c h) = short c h
 denied-both end (no-field c h d) = absurd (d (there end))

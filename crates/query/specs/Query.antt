@@ -9,7 +9,6 @@ use mathlib.Core.List.{List}
 use lib.IntN.{ℤ, natAbs}
 use lib.Ieee.{Float, binary64, div, ofInt, ofBits}
 use lib.ListN.{length, take}
-use Rattle.calendar.specs.declared.Refusal.{Refusal}
 use Rattle.calendar.specs.Said.{refusing}
 use Rattle.meter.specs.General.{digitsOf, generalAt}
 use Rattle.meter.specs.declared.general.General.{General}
@@ -22,8 +21,8 @@ use Rattle.text.specs.declared.Number.{Number}
 use Rattle.text.specs.declared.Number.the-variants as N
 use Rattle.mphr.specs.Layout.{widthOf, kindOf, lineStart}
 use Rattle.judge.specs.Table.{Site, first, Leads, Clean, Given, Whole, Open}
-use Rattle.judge.specs.declared.arrival.Arrival.{Arrival}
-use Rattle.judge.specs.declared.arrival.Arrival.the-variants as A
+use Rattle.query.specs.declared.Sort.{Sort}
+use Rattle.query.specs.declared.Sort.the-variants.{Numbers, Times, LongTimes, Texts}
 use Rattle.query.specs.declared.RecordAnswer.{RecordAnswer}
 use Rattle.query.specs.declared.RecordAnswer.the-variants as R
 use Rattle.query.specs.declared.FieldAnswer.{FieldAnswer}
@@ -34,11 +33,6 @@ use Rattle.query.specs.declared.TimeAnswer.{TimeAnswer}
 use Rattle.query.specs.declared.TimeAnswer.the-variants as T
 use Rattle.query.specs.declared.PointAnswer.{PointAnswer}
 use Rattle.query.specs.declared.PointAnswer.the-variants as P
-
--- the refusal of an arrival that is refused
-abbrev pub refusalOf : Arrival → Refusal
-refusalOf (A.Refused r) = r
-refusalOf (A.Waiting _ _) = refusing 0 0
 
 -- ---- THE RECORD QUERY
 -- record k, which is not the main header, starts at byte i
@@ -82,37 +76,38 @@ pub record Reachable (a : List ℕ) (k : ℕ) : Type 0 where
 abbrev pub mainPart : List ℕ → List ℕ
 mainPart a = take 3307 a
 
--- the four sorts of fields: numbers, signed or not; times; long times; texts
-abbrev pub numbers : ℕ
-numbers = 0
+-- a field is a number, signed or not, a time, a long time or a text
+abbrev pub sortOf : Kind → Sort
+sortOf Unsigned = Numbers
+sortOf Count = Numbers
+sortOf Signed = Numbers
+sortOf Time = Times
+sortOf LongTime = LongTimes
+sortOf Text = Texts
 
-abbrev pub timesOf : Bool → ℕ
-timesOf long = cond long 2 1
+abbrev pub timesOf : Bool → Sort
+timesOf long = cond long LongTimes Times
 
-abbrev pub texts : ℕ
-texts = 3
-
-abbrev pub sortOf : Kind → ℕ
-sortOf Unsigned = 0
-sortOf Count = 0
-sortOf Signed = 0
-sortOf Time = 1
-sortOf LongTime = 2
-sortOf Text = 3
+-- a number to each sort, by which the code tells them apart
+abbrev pub sortNumber : Sort → ℕ
+sortNumber Numbers = 0
+sortNumber Times = 1
+sortNumber LongTimes = 2
+sortNumber Texts = 3
 
 -- field k is there, and of the sort
-pub record FieldOf (k sort : ℕ) : Type 0 where
+pub record FieldOf (k : ℕ) (sort : Sort) : Type 0 where
   pub known : k ≤ 71
   pub sorted : sortOf (kindOf k) ≡ sort
 
 -- the refusal (n, p) of a field query: the judge's of the first 3,307 bytes; row 17, with the length; row 22, "field number not 0..71, wrong kind"
-pub data Denied (a : List ℕ) (k sort : ℕ) : ℕ → ℕ → Type 0 where
+pub data Denied (a : List ℕ) (k : ℕ) (sort : Sort) : ℕ → ℕ → Type 0 where
   faulty : {n p : ℕ} → Given (mainPart a) n p → Denied a k sort n p
   short : Clean (mainPart a) → length a < 3307 → Denied a k sort 17 (length a)
   no-field : Clean (mainPart a) → 3307 ≤ length a → (FieldOf k sort → ⊥) → Denied a k sort 22 0
 
 -- and where none is given
-pub record Allowed (a : List ℕ) (k sort : ℕ) : Type 0 where
+pub record Allowed (a : List ℕ) (k : ℕ) (sort : Sort) : Type 0 where
   pub clean : Clean (mainPart a)
   pub come : 3307 ≤ length a
   pub field : FieldOf k sort
@@ -122,12 +117,12 @@ abbrev pub valueStart : ℕ → ℕ
 valueStart k = lineStart k + 32
 
 -- the value of field k, of the sort, is the w bytes from i on
-pub record PartIs (a : List ℕ) (k sort i w : ℕ) : Type 0 where
+pub record PartIs (a : List ℕ) (k : ℕ) (sort : Sort) (i w : ℕ) : Type 0 where
   pub allowed : Allowed a k sort
   pub start-is : i ≡ valueStart k
   pub width-is : w ≡ widthOf k
 
-abbrev pub FieldIs : List ℕ → ℕ → ℕ → FieldAnswer → Type 0
+abbrev pub FieldIs : List ℕ → ℕ → Sort → FieldAnswer → Type 0
 FieldIs a k sort (F.Part i w) = PartIs a k sort i w
 FieldIs a k sort (F.Refused r) = Denied a k sort (r .number) (r .place)
 
@@ -139,8 +134,8 @@ abbrev pub numberIn : List ℕ → ℕ → Number
 numberIn a k = numberAt a (valueStart k) (widthOf k)
 
 abbrev pub NumberIs : List ℕ → ℕ → NumberAnswer → Type 0
-NumberIs a k (B.Number x) = Allowed a k numbers × (x ≡ numberIn a k)
-NumberIs a k (B.Refused r) = Denied a k numbers (r .number) (r .place)
+NumberIs a k (B.Number x) = Allowed a k Numbers × (x ≡ numberIn a k)
+NumberIs a k (B.Refused r) = Denied a k Numbers (r .number) (r .place)
 
 -- the time of field k
 abbrev pub timeIn : List ℕ → ℕ → Bool → General
@@ -168,13 +163,13 @@ pointOf (N.Whole x) N.Undefined = P.Missing
 pointOf (N.Whole x) (N.Whole y) = P.Point (record { latitude = degrees x; longitude = degrees y })
 
 pub record PointFound (a : List ℕ) (end : Bool) (r : PointAnswer) : Type 0 where
-  pub allowed : Allowed a (latitudeField end) numbers
+  pub allowed : Allowed a (latitudeField end) Numbers
   pub point : r ≡ pointOf (numberIn a (latitudeField end)) (numberIn a (latitudeField end + 1))
 
 abbrev pub PointIs : List ℕ → Bool → PointAnswer → Type 0
 PointIs a end (P.Point g) = PointFound a end (P.Point g)
 PointIs a end P.Missing = PointFound a end P.Missing
-PointIs a end (P.Refused r) = Denied a (latitudeField end) numbers (r .number) (r .place)
+PointIs a end (P.Refused r) = Denied a (latitudeField end) Numbers (r .number) (r .place)
 
 -- a number that f64 holds exactly
 abbrev pub Exact : Number → Type 0

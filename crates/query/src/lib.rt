@@ -15,7 +15,8 @@ ghost use mathlib.Core.Path.{_≡_};
 ghost use mathlib.Core.Bool.{true, false};
 ghost use Prim.Native.Nat.{_+_, _≤_, _<_};
 ghost use lib.ListN.{length};
-ghost use Rattle.query.specs.Query.{refusalOf, StartOf, RecordIs, Reachable, timesOf, texts, sortOf, noField, FieldIs};
+ghost use Rattle.query.specs.Query.{StartOf, RecordIs, Reachable, sortOf, timesOf, sortNumber, noField, FieldIs};
+ghost use Rattle.query.specs.declared.Sort.the-variants.{Texts};
 ghost use Rattle.query.specs.Query.{NumberIs, TimeIs, latitudeField, pointOf, PointIs, Exact};
 
 pub enum RecordAnswer {
@@ -51,25 +52,12 @@ pub enum PointAnswer {
     Refused(Refusal),
 }
 
-const NUMBERS: u8 = 0;
-
-const TIMES: u8 = 1;
-
-const LONG_TIMES: u8 = 2;
-
-const TEXTS: u8 = 3;
-
-// The refusal of an arrival that is refused; it is asked of no other.
-fn refusal_of(judged: Arrival) -> Refusal
-    ensures { λ r. ⌜ r ≡ refusalOf judged ⌝ }
-{
-    match judged {
-        Arrival::Refused(r) => r,
-        Arrival::Waiting { count: _, end: _ } => Refusal {
-            number: 0,
-            place: 0,
-        },
-    }
+// The sorts of fields; a number may have a sign or not.
+enum Sort {
+    Numbers,
+    Times,
+    LongTimes,
+    Texts,
 }
 
 // Where record k starts: the main header is record 0, and the others follow one another.
@@ -93,33 +81,45 @@ fn start_of(s: &[u8], k: usize) -> usize
 pub fn record_at(bytes: &[u8], k: usize) -> RecordAnswer
     ensures { λ r. ⌜ RecordIs (now (bytes .entry)) k r ⌝ }
 {
-    let judged = judge_arrival(bytes);
-    let Arrival::Waiting { count, end: _ } = judged else {
-        return RecordAnswer::Refused(refusal_of(judged));
-    };
-    if count <= k {
-        return RecordAnswer::Refused(Refusal {
-            number: 19,
-            place: count,
-        });
-    }
-    let start = start_of(bytes, k);
-    match record::header::read_header(bytes, start) {
-        HeaderRead::Header(header) => RecordAnswer::Record { start, header },
-        HeaderRead::Refused(r) => RecordAnswer::Refused(r),
+    match judge_arrival(bytes) {
+        Arrival::Refused(r) => RecordAnswer::Refused(r),
+        Arrival::Waiting { count, end: _ } => {
+            if count <= k {
+                return RecordAnswer::Refused(Refusal {
+                    number: 19,
+                    place: count,
+                });
+            }
+            let start = start_of(bytes, k);
+            match record::header::read_header(bytes, start) {
+                HeaderRead::Header(header) => RecordAnswer::Record { start, header },
+                HeaderRead::Refused(r) => RecordAnswer::Refused(r),
+            }
+        }
     }
 }
 
-fn sort_of(kind: Kind) -> u8
+fn sort_of(kind: Kind) -> Sort
     ensures { λ r. ⌜ r ≡ sortOf kind ⌝ }
 {
     match kind {
-        Kind::Unsigned => NUMBERS,
-        Kind::Count => NUMBERS,
-        Kind::Signed => NUMBERS,
-        Kind::Time => TIMES,
-        Kind::LongTime => LONG_TIMES,
-        Kind::Text => TEXTS,
+        Kind::Unsigned => Sort::Numbers,
+        Kind::Count => Sort::Numbers,
+        Kind::Signed => Sort::Numbers,
+        Kind::Time => Sort::Times,
+        Kind::LongTime => Sort::LongTimes,
+        Kind::Text => Sort::Texts,
+    }
+}
+
+fn sort_number(sort: Sort) -> u8
+    ensures { λ r. ⌜ r ≡ sortNumber sort ⌝ }
+{
+    match sort {
+        Sort::Numbers => 0,
+        Sort::Times => 1,
+        Sort::LongTimes => 2,
+        Sort::Texts => 3,
     }
 }
 
@@ -140,14 +140,16 @@ fn no_field() -> FieldAnswer
 }
 
 // The part of a field of the sort: the judge's refusal of the main header's bytes, then 17, then 22.
-fn field_at(bytes: &[u8], k: usize, sort: u8) -> FieldAnswer
+fn field_at(bytes: &[u8], k: usize, sort: Sort) -> FieldAnswer
     ensures { λ r. ⌜ FieldIs (now (bytes .entry)) k sort r ⌝ }
 {
     let n = main_come(bytes.len());
-    let judged = judge_arrival(&bytes[..n]);
-    let Arrival::Waiting { count: _, end: _ } = judged else {
-        return FieldAnswer::Refused(refusal_of(judged));
-    };
+    match judge_arrival(&bytes[..n]) {
+        Arrival::Refused(r) => {
+            return FieldAnswer::Refused(r);
+        }
+        Arrival::Waiting { count: _, end: _ } => {}
+    }
     if n < 3307 {
         return FieldAnswer::Refused(Refusal {
             number: 17,
@@ -158,7 +160,7 @@ fn field_at(bytes: &[u8], k: usize, sort: u8) -> FieldAnswer
         return no_field();
     };
     let kind = place.kind;
-    if sort_of(kind) != sort {
+    if sort_number(sort_of(kind)) != sort_number(sort) {
         return no_field();
     }
     let start = place.start + 32;
@@ -172,7 +174,7 @@ fn field_at(bytes: &[u8], k: usize, sort: u8) -> FieldAnswer
 pub fn number_field(bytes: &[u8], k: usize) -> NumberAnswer
     ensures { λ r. ⌜ NumberIs (now (bytes .entry)) k r ⌝ }
 {
-    match field_at(bytes, k, NUMBERS) {
+    match field_at(bytes, k, Sort::Numbers) {
         FieldAnswer::Refused(r) => NumberAnswer::Refused(r),
         FieldAnswer::Part { start, width } => match text::read_number(bytes, start, width, true) {
             NumberRead::Number(x) => NumberAnswer::Number(x),
@@ -181,10 +183,10 @@ pub fn number_field(bytes: &[u8], k: usize) -> NumberAnswer
     }
 }
 
-fn times_of(long: bool) -> u8
+fn times_of(long: bool) -> Sort
     ensures { λ r. ⌜ r ≡ timesOf long ⌝ }
 {
-    if long { LONG_TIMES } else { TIMES }
+    if long { Sort::LongTimes } else { Sort::Times }
 }
 
 fn time_of(bytes: &[u8], k: usize, long: bool) -> TimeAnswer
@@ -219,9 +221,9 @@ pub fn long_time_field(bytes: &[u8], k: usize) -> TimeAnswer
 
 // Where the text of field k stands.
 pub fn text_field(bytes: &[u8], k: usize) -> FieldAnswer
-    ensures { λ r. ⌜ FieldIs (now (bytes .entry)) k texts r ⌝ }
+    ensures { λ r. ⌜ FieldIs (now (bytes .entry)) k Texts r ⌝ }
 {
-    field_at(bytes, k, TEXTS)
+    field_at(bytes, k, Sort::Texts)
 }
 
 fn point_of(latitude: Number, longitude: Number) -> PointAnswer

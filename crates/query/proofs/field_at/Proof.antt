@@ -2,15 +2,15 @@
 -- nothing.
 use native.Mathlib.Omega.{arith}
 use Prim.Native.Nat.{ℕ, _+_, _≤_}
-use mathlib.Core.Path.{_≡_, refl, sym, ap, _∙_}
+use mathlib.Core.Path.{_≡_, sym, ap, _∙_}
 use lib.ListN.{length}
 use lib.Seq.{length-take-le}
-use Rattle.mphr.specs.Layout.{saidPlace}
+use Rattle.mphr.specs.Layout.{kindOf, saidPlace}
 use Rattle.judge.specs.Table.{Clean, Judged}
-use Rattle.query.specs.Query.{mainPart, sortOf, faulty, no-field as none}
+use Rattle.query.specs.Query.{mainPart, sortOf, sortNumber, faulty, no-field as none}
 use Rattle.judge.specs.declared.arrival.Arrival.{Arrival}
-use Rattle.judge.specs.declared.arrival.Arrival.the-variants.{Waiting}
-use Rattle.query.proofs.QueryLaws.{Come, part-main, handed, judged-at, short-at, not-known, PlaceIs, placed, start-small, denied-with}
+use Rattle.judge.specs.declared.arrival.Arrival.the-variants.{Waiting, Refused}
+use Rattle.query.proofs.QueryLaws.{one-sort, Come, part-main, judged-at, short-at, not-known, PlaceIs, placed, start-small, denied-with}
 use borrow.Author.Needs.{needs}
 use Rattle.query.proofs.field_at.Statement.{statement}
 use Rattle.query.proofs.field_at.Tie as tie
@@ -24,9 +24,6 @@ come c = let m = c .before .before .main-come .ensures in record { within = m .0
 told : (c : tie.After-judge-arrival) (r : Arrival) → c .judge-arrival .result ≡ r → Judged (mainPart (S c .args .bytes .now)) r
 told c r e = judged-at (part-main (S c .args .bytes .now) (c .before .before .main-come .result) (come c)) e (c .judge-arrival .ensures)
 
-judged : (c : tie.After-judge-arrival) → Judged (mainPart (S c .args .bytes .now)) (c .judge-arrival .result)
-judged c = told c (c .judge-arrival .result) refl
-
 abbrev J : tie.After-enum-told → tie.After-judge-arrival
 J c = c .before .before
 
@@ -36,8 +33,11 @@ clean c = let g = c .enum-told .given in told (J c) (Waiting (g .0 .0) (g .0 .1 
 all-come : (c : tie.Else1) → 3307 ≤ length (S (J (c .before)) .args .bytes .now)
 all-come c = omega (arith, c .if1 .left, come (J (c .before)) .within)
 
-place : (c : tie.After-known-told) → PlaceIs (S (J (c .before .before .before .before .before)) .args .k) (c .before .place .given .0 .0)
+place : (c : tie.After-known-told2) → PlaceIs (S (J (c .before .before .before .before .before)) .args .k) (c .before .place .given .0 .0)
 place c = placed (ap saidPlace (sym (c .before .place .given .1)) ∙ c .before .before .before .field-place .ensures)
+
+abbrev K : tie.After-sort-number2 → tie.Else1
+K c = c .before .before .before .before .before .before .before
 
 main-come-requires : tie.Need-main-come-requires
 main-come-requires c κs = search needs
@@ -48,17 +48,14 @@ slice-aggregate-judge-arrival c = sym (length-take-le (c .before .main-come .res
 judge-arrival-requires : tie.Need-judge-arrival-requires
 judge-arrival-requires c κs = search needs
 
-enum-told : tie.Need-enum-told
-enum-told c = search needs
-
-enum-told-2 : tie.Need-enum-told-2
-enum-told-2 c = search needs
-
-refusal-of-requires : tie.Need-refusal-of-requires
-refusal-of-requires c κs = search needs
+enum-known-r : tie.Need-enum-known-r
+enum-known-r c = search needs
 
 returns : tie.Need-returns
-returns c = let j = c .before .before .before in faulty (handed (c .before .enum-told2 .given .1) (c .refusal-of .ensures) (judged j))
+returns c = let g = c .before .r .given in faulty (told (c .before .before .before) (Refused (g .0 .0)) (g .1))
+
+enum-told : tie.Need-enum-told
+enum-told c = search needs
 
 returns-2 : tie.Need-returns-2
 returns-2 c = let m = come (J (c .before)) in short-at (m .all (c .if1 .taken)) (clean (c .before)) (c .if1 .taken)
@@ -69,8 +66,8 @@ field-place-requires c κs = search needs
 enum-known-place : tie.Need-enum-known-place
 enum-known-place c = search needs
 
-enum-told-3 : tie.Need-enum-told-3
-enum-told-3 c = search needs
+enum-told-2 : tie.Need-enum-told-2
+enum-told-2 c = search needs
 
 no-field-requires : tie.Need-no-field-requires
 no-field-requires c κs = search needs
@@ -79,30 +76,42 @@ returns-3 : tie.Need-returns-3
 returns-3 c =
     let f = c .before .before .before in
     let e = f .before in
-    denied-with (c .no-field .ensures) (none (clean (e .before)) (all-come e) (λ d. not-known (ap saidPlace (sym (c .before .enum-told3 .given .1)) ∙ f .field-place .ensures) (d .known)))
+    denied-with (c .no-field .ensures) (none (clean (e .before)) (all-come e) (λ d. not-known (ap saidPlace (sym (c .before .enum-told2 .given .1)) ∙ f .field-place .ensures) (d .known)))
 
 sort-of-requires : tie.Need-sort-of-requires
 sort-of-requires c κs = search needs
 
+sort-number-requires : tie.Need-sort-number-requires
+sort-number-requires c κs = search needs
+
+sort-number-requires-2 : tie.Need-sort-number-requires-2
+sort-number-requires-2 c κs = search needs
+
 no-field-requires-2 : tie.Need-no-field-requires-2
 no-field-requires-2 c κs = search needs
 
+-- the place's sort, by its number
+number-is : (c : tie.After-sort-number2) → c .before .sort-number .result ≡ sortNumber (sortOf (kindOf (S (J (K c .before)) .args .k)))
+number-is c =
+    let o = c .before .before in
+    c .before .sort-number .ensures ∙ ap sortNumber (o .sort-of .ensures ∙ ap sortOf (place (o .before) .kind-is))
+
 returns-4 : tie.Need-returns-4
 returns-4 c =
-    let o = c .before .before in
-    let e = o .before .before .before .before .before in
-    denied-with (c .no-field2 .ensures) (none (clean (e .before)) (all-come e) (λ d. c .before .if2 .taken (o .sort-of .ensures ∙ ap sortOf (place (o .before) .kind-is) ∙ d .sorted)))
+    let t = c .before in
+    let e = K (t .before) in
+    denied-with (c .no-field2 .ensures) (none (clean (e .before)) (all-come e) (λ d. t .if2 .taken (number-is (t .before) ∙ ap sortNumber (d .sorted) ∙ sym (t .before .sort-number2 .ensures))))
 
 add-start : tie.Need-add-start
-add-start c = let p = place (c .before .before .before) in omega (arith, p .start-is, start-small (p .known))
+add-start c = let p = place (c .before .before .before .before .before) in omega (arith, p .start-is, start-small (p .known))
 
 returns-5 : tie.Need-returns-5
 returns-5 c =
-    let o = c .before .before in
-    let e = o .before .before .before .before .before in
-    let p = place (o .before) in
+    let n = c .before .before in
+    let e = K n in
+    let p = place (n .before .before .before) in
     record {
-      allowed = record { clean = clean (e .before); come = all-come e; field = record { known = p .known; sorted = ap sortOf (sym (p .kind-is)) ∙ sym (o .sort-of .ensures) ∙ c .before .if2 .left } };
+      allowed = record { clean = clean (e .before); come = all-come e; field = record { known = p .known; sorted = one-sort (sym (number-is n) ∙ c .before .if2 .left ∙ n .sort-number2 .ensures) } };
       start-is = ap (λ (i : ℕ). i + 32) (p .start-is);
       width-is = p .width-is;
     }
@@ -114,17 +123,18 @@ field-at-spec =
     main-come-requires
     slice-aggregate-judge-arrival
     judge-arrival-requires
-    enum-told
-    enum-told-2
-    refusal-of-requires
+    enum-known-r
     returns
+    enum-told
     returns-2
     field-place-requires
     enum-known-place
-    enum-told-3
+    enum-told-2
     no-field-requires
     returns-3
     sort-of-requires
+    sort-number-requires
+    sort-number-requires-2
     no-field-requires-2
     returns-4
     add-start

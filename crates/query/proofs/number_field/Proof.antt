@@ -2,7 +2,8 @@
 use mathlib.Core.Path.{_≡_, sym, ap, _∙_}
 use Rattle.calendar.specs.Said.{answer}
 use Rattle.text.specs.Field.{saidNumber}
-use Rattle.query.specs.Query.{numbers, PartIs, FieldIs, numberIn}
+use Rattle.query.specs.Query.{PartIs, FieldIs, numberIn}
+use Rattle.query.specs.declared.Sort.the-variants.{Numbers}
 use Rattle.query.specs.declared.FieldAnswer.{FieldAnswer}
 use Rattle.query.specs.declared.FieldAnswer.the-variants as F
 use Rattle.query.proofs.QueryLaws.{same-answer, no-answer, number-read}
@@ -13,13 +14,13 @@ use Rattle.query.proofs.number_field.Tie as tie
 abbrev S : tie.After-field-at → tie.Start
 S c = c .before .before
 
-told : (c : tie.After-field-at) (r : FieldAnswer) → c .field-at .result ≡ r → FieldIs (S c .args .bytes .now) (S c .args .k) numbers r
+told : (c : tie.After-field-at) (r : FieldAnswer) → c .field-at .result ≡ r → FieldIs (S c .args .bytes .now) (S c .args .k) Numbers r
 told c r e = rw e at (c .field-at .ensures)
 
 abbrev A : tie.After-read-number → tie.After-field-at
 A c = c .before .before .before .before
 
-part : (c : tie.After-read-number) → PartIs (S (A c) .args .bytes .now) (S (A c) .args .k) numbers (c .before .before .start .given .0 .0) (c .before .before .start .given .0 .1 .0)
+part : (c : tie.After-read-number) → PartIs (S (A c) .args .bytes .now) (S (A c) .args .k) Numbers (c .before .before .start .given .0 .0) (c .before .before .start .given .0 .1 .0)
 part c = let g = c .before .before .start .given in told (A c) (F.Part (g .0 .0) (g .0 .1 .0)) (g .1)
 
 read : (c : tie.After-read-number) → saidNumber (c .read-number .result) ≡ answer (numberIn (S (A c) .args .bytes .now) (S (A c) .args .k))

@@ -1,9 +1,9 @@
--- `mphr::faults::total_of` meets its contract: the total's field. Assumes nothing.
+-- `mphr::faults::total_of` meets its contract: the total's field, whose count has at most six digits. Assumes nothing.
 use Prim.Native.Nat.{_+_, _*_}
 use denote.Ref.{now}
-use mathlib.Core.Bool.{false}
-use Rattle.text.proofs.Exact.{count-is, is-small}
+use Rattle.text.proofs.Exact.{count-is}
 use Rattle.mphr.specs.Table.{total}
+use Rattle.mphr.proofs.LineLaws.{count-most}
 use native.Mathlib.Omega.{arith}
 use mathlib.Core.Path.{_∙_}
 use borrow.Author.Needs.{needs}
@@ -23,9 +23,8 @@ returns : tie.Need-returns
 unfolding total
 returns c =
     let s = c .before .before in
-    let n = s .pre .1 .counts (s .args .j) (omega arith) in
-    let e = c .count-at .ensures ∙ count-is (now (s .args .s)) (2675 + 39 * s .args .j) 6 n (omega arith) (omega (arith, s .pre .1 .come)) in
-    (e, omega (arith, e, is-small false (now (s .args .s)) (2675 + 39 * s .args .j) 6 n))
+    let i = 2675 + 39 * s .args .j in
+    (λ y. c .count-at .ensures ∙ count-is (now (s .args .s)) i 6 (y .counts (s .args .j) (omega arith)) (omega arith) (omega (arith, y .come)), omega (arith, c .count-at .ensures, count-most (now (s .args .s)) i))
 
 pub total-of-spec : {M : Type 1} → statement M
 total-of-spec = tie.close (tie.spec mul-count-at add-count-at count-at-requires returns)

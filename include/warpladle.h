@@ -201,7 +201,7 @@ typedef struct wl_watch {
     uint8_t head[3307], under[27];
     uint32_t starts[64], targets[64], kinds[64];
     uint64_t totals[9], tally[9];
-    uint64_t got, have, at, count, declared, due, place, next;
+    uint64_t got, have, at, count, declared, due, place, next, line;
     uint8_t previous, number;
 } wl_watch;
 

@@ -259,7 +259,7 @@ mod boundary {
     /// Some bytes of a state set at random, now and then all.
     fn disturb(rng: &mut Rng, watch: &mut raw::Watch) {
         let all = rng.one_in(8);
-        let (from, many) = if all { (0, SIZE) } else { (rng.pick(&[0, 3307, SIZE - 220]), 1 + rng.below(8)) };
+        let (from, many) = if all { (0, SIZE) } else { (rng.pick(&[0, 3307, SIZE - 228]), 1 + rng.below(8)) };
         let state = (watch as *mut raw::Watch).cast::<u8>();
         for k in 0..many {
             let at = if all { k } else { from + rng.below(SIZE - from) };

@@ -1,15 +1,17 @@
 -- DETERMINED: no second answer, and no second room at exit, fits a promise of this crate. The main header's fault is a theorem of Prefix
 -- (`unique-header-fault`); the others are equations through what an answer says. Assumes nothing.
-use mathlib.Core.Path.{_≡_, refl}
+use mathlib.Core.Path.{_≡_, refl, ap}
 use mathlib.Core.Bool.{Bool}
+use mathlib.Core.Logic.{⊎-elim}
 use mathlib.Core.List.{List, _++_}
-use Prim.Native.Nat.{ℕ, _+_, _<_}
+use Prim.Native.Nat.{ℕ, _+_, _≤_, _<_}
 use native.Mathlib.Decide.{decLt}
 use native.Mathlib.Omega.{arith}
 use lib.Dec.{leb}
 use lib.ListN.{length, drop}
 use Rattle.calendar.specs.Said.{Said, answer, refusal, refusing}
 use Rattle.calendar.proofs.Determined.{fixes, only}
+use Rattle.tables.proofs.Laws.{not-clean, unique-given}
 use Rattle.meter.specs.Lent.{wrote, saidWritten}
 use Rattle.meter.specs.declared.integer.Written.{Written}
 use Rattle.meter.specs.declared.general.General.{General}
@@ -18,6 +20,8 @@ use Rattle.meter.specs.General.{digitsOf, putGeneral}
 use Rattle.text.specs.Writing.{putNumber, putText}
 use Rattle.text.specs.declared.Number.{Number}
 use Rattle.mphr.specs.Layout.{nameOf, widthOf, kindOf, fieldOf, saidPlace, LineAfter}
+use Rattle.mphr.specs.Table.{table}
+use Rattle.mphr.specs.Resumed.{UnderWay, ReachedIs}
 use Rattle.mphr.specs.Lookup.{fieldNamed, saidField}
 use Rattle.mphr.specs.Lines.{isLong, textOn, numberOn, timeOn, putLine, writesLine, WritesLine, WritesTextLine, WritesNumberLine, WritesTimeLine, WritesName}
 use Rattle.mphr.specs.declared.layout.Place.{Place}
@@ -25,6 +29,9 @@ use Rattle.mphr.specs.declared.layout.FieldPlace.{FieldPlace}
 use Rattle.mphr.specs.declared.layout.FieldPlace.the-variants as P
 use Rattle.mphr.specs.declared.names.FieldNumber.{FieldNumber}
 use Rattle.mphr.specs.declared.names.FieldNumber.the-variants as F
+use Rattle.mphr.specs.declared.faults.Reached.{Reached}
+use Rattle.mphr.specs.declared.faults.Reached.the-variants as R
+use Rattle.mphr.proofs.Prefix.{lawful, same-refusal}
 
 abbrev unsaidPlace : Said Place → FieldPlace
 unsaidPlace (answer x) = P.Place x
@@ -68,7 +75,7 @@ unique-write-name room k r s p q x y = (
 )
 
 -- a line start that is the first after n, and no other
-pub unique-line-after : (n r s : ℕ) → LineAfter n r → LineAfter n s → r ≡ s
+unique-line-after : (n r s : ℕ) → LineAfter n r → LineAfter n s → r ≡ s
 unique-line-after n r s x y = go (decLt n 3307)
   where
     go : Dec (n < 3307) → r ≡ s
@@ -77,3 +84,16 @@ unique-line-after n r s x y = go (decLt n 3307)
         let g = y .first (x .start .0) (x .start .1) (omega (arith, x .after l, x .start .2)) in
         omega (arith, f, g, x .start .2, y .start .2)
     go (no d) = omega (arith, x .none (omega (arith, d)), y .none (omega (arith, d)))
+
+-- the line under way, and what is answered with it, where it is promised
+unique-under-way : (n k j d e : ℕ) → UnderWay n k d → UnderWay n j e → (k ≡ j) × (d ≡ e)
+unique-under-way n k j d e x y = (omega (arith, below x y, below y x), unique-line-after n d e (x .end) (y .end))
+  where
+    below : {k j d e : ℕ} → UnderWay n k d → UnderWay n j e → k ≤ j
+    below {k} {j} x y = ⊎-elim (λ z. omega arith) (λ l. y .last k (x .most) l) (x .come)
+
+pub unique-lines-from : (a : List ℕ) (r s : Reached) → ReachedIs a r → ReachedIs a s → r ≡ s
+unique-lines-from a (R.Refused x) (R.Refused y) h k = let u = unique-given table lawful h k in ap R.Refused (same-refusal x y (u .0) (u .1))
+unique-lines-from a (R.Refused x) (R.Line j d) h k = absurd (not-clean h (k .0))
+unique-lines-from a (R.Line i d) (R.Refused y) h k = absurd (not-clean k (h .0))
+unique-lines-from a (R.Line i d) (R.Line j e) h k = let u = unique-under-way (length a) i j d e (h .1) (k .1) in let p = u .0 in let q = u .1 in cc

@@ -2,6 +2,7 @@ pub mod LayoutLaws
 pub mod NameLaws
 pub mod LineLaws
 pub mod FirstLaws
+pub mod UnderWayLaws
 pub mod TurnLaws
 pub mod Prefix
 pub mod Export

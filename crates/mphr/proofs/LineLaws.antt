@@ -1,7 +1,7 @@
 -- A line by the code's tests: its name, "= " and line feed, its value, and the numbers of the size and the totals. By rewriting with each
 -- test that led there; the kinds of those ten lines are computed. Assumes nothing.
 use mathlib.Core.Path.{_≡_, refl, sym, _∙_}
-use mathlib.Core.Bool.{Bool, true, false, _&&_}
+use mathlib.Core.Bool.{Bool, true, false, _&&_, cond}
 use mathlib.Core.List.{List}
 use Prim.Native.Nat.{ℕ, _+_, _*_, _≤_, _<_}
 use native.Mathlib.Omega.{arith}
@@ -12,7 +12,8 @@ use Rattle.calendar.proofs.Range.{below, at}
 use Rattle.meter.specs.General.{lead, numberOf}
 use Rattle.meter.specs.Lent.{inside}
 use Rattle.meter.proofs.GeneralRuns.{lead-is}
-use Rattle.text.specs.Field.{isNumber, isValue}
+use Rattle.text.specs.Field.{isNumber, isValue, countAt}
+use Rattle.text.proofs.Exact.{is-small}
 use Rattle.text.specs.declared.Kind.{Kind}
 use Rattle.text.specs.declared.Kind.the-variants.{Text, Unsigned, Count, Signed, Time, LongTime}
 use Rattle.mphr.specs.Table.{named, framed, valued, declared, total}
@@ -108,3 +109,12 @@ pub total-number : (a : List ℕ) (j : ℕ) → j < 9 → valued a (55 + j) ≡ 
 unfolding valued
 total-number a j h v =
     sym (count-is (kindOf (55 + j)) a (2675 + 39 * j) 6 (at (λ (j : ℕ). isCount (kindOf (55 + j))) 9 total-kinds j h)) ∙ rw (total-start j h, total-width j h) at v
+
+-- a total's field counts below a million, whatever its bytes
+small : (x y : Bool) (n : ℕ) → (y ≡ true → n < 1000000) → cond (x && y) n 0 < 1000000
+small true true n f = f refl
+small true false n f = omega arith
+small false y n f = omega arith
+
+pub count-most : (a : List ℕ) (i : ℕ) → countAt a i 6 < 1000000
+count-most a i = small (inside a i 6) (isNumber false a i 6) (numberOf a i 6) (is-small false a i 6)

@@ -7,17 +7,18 @@ use mathlib.Core.List.{List}
 use Prim.Native.Nat.{ℕ, suc, _+_, _≤_, _<_}
 use native.Mathlib.Numerals.{add-one}
 use native.Mathlib.Omega.{arith}
-use native.Mathlib.Decide.{ℕ-discrete}
+use native.Mathlib.Decide.{ℕ-discrete, decLt}
 use lib.ListN.{length}
 use Rattle.tables.specs.Table.{Before}
 use Rattle.tables.proofs.Laws.{given, given-at}
 use Rattle.tables.proofs.Passing.{passes, clash}
-use Rattle.text.specs.Field.{isNumber}
 use Rattle.mphr.specs.Layout.{widthOf, lineStart}
 use Rattle.mphr.specs.Table.{headed, timed, framed, valued, declared, Sums, bad-frame, bad-value, Fault, bad-header, bad-line, bad-size, bad-totals, bad-times, row, number, place, shown, Given, Clean}
-use Rattle.mphr.specs.Turning.{stage, Past, Gone, Later, Counts, Ready}
+use Rattle.mphr.specs.Resumed.{Resumes, UnderWay}
+use Rattle.mphr.specs.Turning.{stage, Past, Gone, Numbered, Later, Ready}
 use Rattle.mphr.proofs.LayoutLaws.{start-next, start-29, start-64, start-72, start-mono, start-less}
 use Rattle.mphr.proofs.LineLaws.{size-number, total-number}
+use Rattle.mphr.proofs.UnderWayLaws.{at-first, at-line, at-end}
 
 -- each fault is shown where its stage starts
 pub shown-is : {a : List ℕ} (g : Fault a) → shown g ≡ lineStart (stage g)
@@ -59,9 +60,13 @@ begin h t (bad-size u d) = omega arith
 begin h t (bad-totals u d) = omega arith
 begin h t (bad-times e) = absurd (clash t e)
 
-pub wait-first : {a : List ℕ} → length a < 20 → Clean a
+pub wait-first : {a : List ℕ} → length a < 20 → Clean a × UnderWay (length a) 0 20
 unfolding lineStart
-wait-first l g s = omega (arith, shown-is g, start-mono {j = 0} {k = stage g} (omega arith))
+wait-first l = (λ g s. omega (arith, shown-is g, start-mono {j = 0} {k = stage g} (omega arith)), at-first l)
+
+-- where the bytes before line k show no fault
+pub resumed : {a : List ℕ} {k : ℕ} → 1 ≤ k → lineStart k ≤ length a → Resumes a k → Past a k
+resumed {a} {k} l come r g = elim (decLt k (stage g)) [ yes d ↦ d | no d ↦ absurd (r l come g (omega (arith, d, shown-is g, start-mono {j = stage g} {k = k} (omega (arith, d))))) ]
 
 pub refuse-1 : {a : List ℕ} → headed a ≡ false → 20 ≤ length a → Given a 1 0
 unfolding lineStart
@@ -92,8 +97,8 @@ past-valued {a} past j h l = passes (valued a j) (λ e. omega (arith, past (bad-
 
 -- ---- a line
 module _ {a : List ℕ} {k : ℕ} (line : k < 72) (past : Past a k) where
-  pub wait : length a < lineStart (suc k) → Clean a
-  wait l g s = omega (arith, shown-is g, start-mono (past g))
+  pub wait : lineStart k ≤ length a → length a < lineStart (suc k) → Clean a × UnderWay (length a) k (lineStart (suc k))
+  wait come l = (λ g s. omega (arith, shown-is g, start-mono (past g)), at-line line come l)
 
   module _ (come : lineStart (suc k) ≤ length a) where
     frame-at : {j : ℕ} → suc j ≡ suc k → framed a j ≡ false → framed a k ≡ false
@@ -170,52 +175,56 @@ module _ {a : List ℕ} {k : ℕ} (line : k < 72) (past : Past a k) where
             none (bad-times _) s = omega arith
 
 -- ---- after the lines
-pub whole : {a : List ℕ} {k : ℕ} → 72 ≤ k → Past a k → Clean a
-whole l past g _ = omega (arith, past g, stage-most g)
+pub whole : {a : List ℕ} {k : ℕ} → 72 ≤ k → lineStart k ≤ length a → Past a k → Clean a × UnderWay (length a) 72 3307
+whole {k = k} l come past = (λ g _. omega (arith, past g, stage-most g), at-end (omega (arith, start-mono {j = 72} {k = k} l, start-72)))
 
 -- ---- a line, in the code's names: it starts at p, its value is w wide
 module _ {a : List ℕ} {k p w : ℕ} (y : Ready a k p) (wide : w ≡ widthOf k) where
   to-is : p + w + 33 ≡ lineStart (suc k)
   to-is = omega (arith, start-next k, y .at-is)
 
-  pub say-wait : length a < p + w + 33 → Clean a
-  say-wait l = wait (y .line) (y .past) (omega (arith, to-is))
+  pub say-wait : length a < p + w + 33 → Past a k → Clean a × UnderWay (length a) k (p + w + 33)
+  say-wait l past = rw to-is (wait (y .line) past (omega (arith, y .at-is, y .come)) (omega (arith, to-is)))
 
   module _ (come : p + w + 33 ≤ length a) where
     there : lineStart (suc k) ≤ length a
     there = omega (arith, to-is)
 
-    pub say-2 : framed a k ≡ false → Given a 2 p
-    say-2 e = given-at (sym (y .at-is)) (refuse-2 (y .line) (y .past) there e)
+    pub say-2 : framed a k ≡ false → Past a k → Given a 2 p
+    say-2 e past = given-at (sym (y .at-is)) (refuse-2 (y .line) past there e)
 
     module _ (frame : framed a k ≡ true) where
-      pub say-3 : valued a k ≡ false → Given a 3 (p + 32)
-      say-3 e = given-at (ap (λ (i : ℕ). i + 32) (sym (y .at-is))) (refuse-3 (y .line) (y .past) there frame e)
+      pub say-3 : valued a k ≡ false → Past a k → Given a 3 (p + 32)
+      say-3 e past = given-at (ap (λ (i : ℕ). i + 32) (sym (y .at-is))) (refuse-3 (y .line) past there frame e)
 
       module _ (value : valued a k ≡ true) where
-        pub say-size : k ≡ 28 → (1497 ≤ length a) × (isNumber false a 1485 11 ≡ true)
-        say-size e = (omega (arith, there, start-29, ap (λ (i : ℕ). lineStart (suc i)) e), size-number a (rw e at value))
+        numbered : Past a k → Numbered a k
+        numbered past = (
+          λ e. (omega (arith, there, start-29, ap (λ (i : ℕ). lineStart (suc i)) e), size-number a (rw e at value)),
+          λ e. record {
+            come = omega (arith, there, start-64, ap (λ (i : ℕ). lineStart (suc i)) e);
+            counts = λ j h. total-number a j h (values-55 (y .line) past there frame value e j h);
+          },
+        )
 
-        pub say-counts : k ≡ 63 → Counts a
-        say-counts e = record {
-          come = omega (arith, there, start-64, ap (λ (i : ℕ). lineStart (suc i)) e);
-          counts = λ j h. total-number a j h (values-55 (y .line) (y .past) there frame value e j h);
-        }
+      module _ (value : valued a k ≡ true) {h : ℕ} (later : Numbered a k → Later a k h) where
+        pub say-4 : h ≡ 4 → Past a k → Given a 4 1485
+        say-4 e past = let f = later (numbered value past) .four e in refuse-4 (y .line) past there frame value (f .0) (f .1)
 
-      module _ (value : valued a k ≡ true) {h : ℕ} (later : Later a k h) where
-        pub say-4 : h ≡ 4 → Given a 4 1485
-        say-4 e = let f = later .four e in refuse-4 (y .line) (y .past) there frame value (f .0) (f .1)
-
-        pub say-5 : h ≡ 5 → Given a 5 2675
-        say-5 e = let f = later .five e in refuse-5 (y .line) (y .past) there frame value (f .0) (f .1)
+        pub say-5 : h ≡ 5 → Past a k → Given a 5 2675
+        say-5 e past = let f = later (numbered value past) .five e in refuse-5 (y .line) past there frame value (f .0) (f .1)
 
         pub say-go : (h ≡ 4 → ⊥) → (h ≡ 5 → ⊥) → Gone a k (p + w + 33)
-        say-go u v = record { to-is = to-is; come = come; past = go (y .line) (y .past) there frame value (later .size u) (later .totals v) }
+        say-go u v = record {
+          to-is = to-is;
+          come = come;
+          past = λ past. let f = later (numbered value past) in go (y .line) past there frame value (f .size u) (f .totals v);
+        }
 
 -- ---- the loop
 pub start-0 : lineStart 0 ≡ 20
 unfolding lineStart
 start-0 = refl
 
-pub gone-at : {a : List ℕ} {k to : ℕ} → Gone a k to → (to ≡ lineStart (k + 1)) × (to ≤ length a) × Past a (k + 1)
+pub gone-at : {a : List ℕ} {k to : ℕ} → Gone a k to → (to ≡ lineStart (k + 1)) × (to ≤ length a) × (Past a k → Past a (k + 1))
 gone-at {k = k} g = rw add-one (g .to-is, g .come, g .past)

@@ -9,8 +9,9 @@ use lib.ListN.{length, getD}
 use Rattle.calendar.specs.Said.{refusing}
 use Rattle.text.specs.Field.{isNumber}
 use Rattle.mphr.specs.Layout.{widthOf, lineStart}
-use Rattle.mphr.specs.Table.{declared, Sums, Fault, bad-header, bad-line, bad-size, bad-totals, bad-times, FirstIs}
-use Rattle.mphr.specs.declared.faults.HeaderFault.the-variants as F
+use Rattle.mphr.specs.Table.{declared, Sums, Fault, bad-header, bad-line, bad-size, bad-totals, bad-times}
+use Rattle.mphr.specs.Resumed.{ReachedIs}
+use Rattle.mphr.specs.declared.faults.Reached.the-variants as R
 use Rattle.mphr.specs.declared.faults.Turned.{Turned}
 use Rattle.mphr.specs.declared.faults.Turned.the-variants.{Stop, Go}
 
@@ -46,20 +47,23 @@ pub record Counts (a : List ℕ) : Type 0 where
   pub come : 2994 ≤ length a
   pub counts : (j : ℕ) → j < 9 → isNumber false a (2675 + 39 * j) 6 ≡ true
 
+-- where line k is the last that they look at, the fields of the size, or of the totals, have come and are numbers
+abbrev pub Numbered : List ℕ → ℕ → Type 0
+Numbered a k = (k ≡ 28 → (1497 ≤ length a) × (isNumber false a 1485 11 ≡ true)) × (k ≡ 63 → Counts a)
+
 pub record Ready (a : List ℕ) (k at : ℕ) : Type 0 where
   pub line : k < 72
   pub at-is : at ≡ lineStart k
   pub come : at ≤ length a
-  pub past : Past a k
 
 pub record Gone (a : List ℕ) (k to : ℕ) : Type 0 where
   pub to-is : to ≡ lineStart (suc k)
   pub come : to ≤ length a
-  pub past : Past a (suc k)
+  pub past : Past a k → Past a (suc k)
 
 abbrev pub TurnedIs : List ℕ → ℕ → Turned → Type 0
-TurnedIs a k (Stop r) = FirstIs a r
+TurnedIs a k (Stop r) = Past a k → ReachedIs a r
 TurnedIs a k (Go to) = Gone a k to
 
 abbrev pub refusedAt : ℕ → ℕ → Turned
-refusedAt n p = Stop (F.Refused (refusing n p))
+refusedAt n p = Stop (R.Refused (refusing n p))

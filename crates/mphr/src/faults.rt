@@ -1,22 +1,22 @@
 // The first of the faults 1 to 5 and 10 that an arrival shows of its main product header: one pass over its lines, which stops at the
-// first line that has not wholly come.
+// first line that has not wholly come, and goes on from there where it is asked again.
 use crate::layout::KINDS;
 use crate::layout::NAMES;
 use crate::layout::WIDTHS;
 use crate::layout::kind_at;
+use crate::layout::start;
 use crate::layout::width_at;
 use calendar::Refusal;
 use meter::integer::Unsigned;
 use text::count_at;
 ghost use mathlib.Core.Path.{_≡_};
-ghost use mathlib.Core.Bool.{true, false};
 ghost use Prim.Native.Nat.{_+_, _*_, _≤_, _<_};
 ghost use lib.ListN.{length};
 ghost use Rattle.meter.specs.Integer.{beAt};
-ghost use Rattle.text.specs.Field.{isNumber};
 ghost use Rattle.mphr.specs.Layout.{names, widths, codes, widthOf, lineStart};
-ghost use Rattle.mphr.specs.Table.{headed, named, framed, declared, total, sum, FirstIs};
-ghost use Rattle.mphr.specs.Turning.{AlikeIs, Later, Counts, Ready, TurnedIs, refusedAt};
+ghost use Rattle.mphr.specs.Table.{headed, named, framed, total, sum, FirstIs};
+ghost use Rattle.mphr.specs.Resumed.{Resumes, ReachedIs};
+ghost use Rattle.mphr.specs.Turning.{AlikeIs, Numbered, Later, Counts, Ready, Past, TurnedIs, refusedAt};
 
 // The first fault that is shown, or none.
 pub enum HeaderFault {
@@ -24,9 +24,15 @@ pub enum HeaderFault {
     Refused(Refusal),
 }
 
+// What has come: the first fault that is shown; or none, with the line that is under way and where it ends.
+pub enum Reached {
+    Refused(Refusal),
+    Line { line: usize, end: usize },
+}
+
 // What a line comes to.
 enum Turned {
-    Stop(HeaderFault),
+    Stop(Reached),
     Go(usize),
 }
 
@@ -117,15 +123,14 @@ fn is_framed(s: &[u8], table: &[u8], k: usize, at: usize, w: usize) -> bool
 
 // The total of a class, or of all records at 0.
 fn total_of(s: &[u8], j: usize) -> u64
-    requires { ⌜ (j ≤ 8) × Counts (now s) ⌝ }
-    ensures { λ r. ⌜ (r ≡ total (now (s .entry)) j) × (r < 1000000) ⌝ }
+    requires { ⌜ j ≤ 8 ⌝ }
+    ensures { λ r. ⌜ (Counts (now (s .entry)) → r ≡ total (now (s .entry)) j) × (r < 1000000) ⌝ }
 {
     count_at(s, 2675 + 39 * j, 6)
 }
 
 fn sum_of(s: &[u8]) -> u64
-    requires { ⌜ Counts (now s) ⌝ }
-    ensures { λ r. ⌜ r ≡ sum (now (s .entry)) 8 ⌝ }
+    ensures { λ r. ⌜ (Counts (now (s .entry)) → r ≡ sum (now (s .entry)) 8) ⌝ }
 {
     let mut v: u64 = 0;
     let mut j: usize = 0;
@@ -138,8 +143,7 @@ fn sum_of(s: &[u8]) -> u64
 
 // The faults of the size and of the totals, where line k is the last that they look at.
 fn later(s: &[u8], k: usize) -> usize
-    requires { ⌜ (k ≡ 28 → (1497 ≤ length (now s)) × (isNumber false (now s) 1485 11 ≡ true)) × (k ≡ 63 → Counts (now s)) ⌝ }
-    ensures { λ r. ⌜ Later (now (s .entry)) k r ⌝ }
+    ensures { λ r. ⌜ (Numbered (now (s .entry)) k → Later (now (s .entry)) k r) ⌝ }
 {
     if k == 28 {
         let d = count_at(s, 1485, 11);
@@ -169,7 +173,7 @@ fn later(s: &[u8], k: usize) -> usize
 fn refused(number: u8, place: usize) -> Turned
     ensures { λ r. ⌜ r ≡ refusedAt number place ⌝ }
 {
-    Turned::Stop(HeaderFault::Refused(Refusal { number, place }))
+    Turned::Stop(Reached::Refused(Refusal { number, place }))
 }
 
 // One line.
@@ -187,7 +191,7 @@ fn turn(
     let w = width_at(width_table, k);
     let to = at + w + 33;
     if s.len() < to {
-        return Turned::Stop(HeaderFault::Clean);
+        return Turned::Stop(Reached::Line { line: k, end: to });
     }
     if !is_framed(s, table, k, at, w) {
         return refused(2, at);
@@ -205,35 +209,21 @@ fn turn(
     Turned::Go(to)
 }
 
-// The first fault that an arrival shows of the main product header: shown earliest, then of the lowest number, then at the lowest place.
-pub fn header_fault(s: &[u8]) -> HeaderFault
-    ensures { λ r. ⌜ FirstIs (now (s .entry)) r ⌝ }
+// The lines from `line` on, which starts at `from`.
+fn walk(s: &[u8], line: usize, from: usize) -> Reached
+    requires { ⌜ Ready (now s) line from ⌝ }
+    ensures { λ r. ⌜ (Past (now (s .entry)) line → ReachedIs (now (s .entry)) r) ⌝ }
 {
-    if s.len() < 20 {
-        return HeaderFault::Clean;
-    }
-    if !is_headed(s) {
-        return HeaderFault::Refused(Refusal {
-            number: 1,
-            place: 0,
-        });
-    }
-    if !record::times::times_stand(s, 0) {
-        return HeaderFault::Refused(Refusal {
-            number: 10,
-            place: 0,
-        });
-    }
     // Once: a const array is copied where it is named.
     let table = NAMES;
     let width_table = WIDTHS;
     let kind_table = KINDS;
-    let mut k: usize = 0;
-    let mut at: usize = 20;
+    let mut k = line;
+    let mut at = from;
     while k < 72 {
         match turn(s, &table, &width_table, &kind_table, k, at) {
-            Turned::Stop(f) => {
-                return f;
+            Turned::Stop(r) => {
+                return r;
             }
             Turned::Go(to) => {
                 at = to;
@@ -241,5 +231,57 @@ pub fn header_fault(s: &[u8]) -> HeaderFault
             }
         }
     }
-    HeaderFault::Clean
+    Reached::Line {
+        line: 72,
+        end: 3307,
+    }
+}
+
+// The record header and the lines.
+fn from_first(s: &[u8]) -> Reached
+    ensures { λ r. ⌜ ReachedIs (now (s .entry)) r ⌝ }
+{
+    if s.len() < 20 {
+        return Reached::Line { line: 0, end: 20 };
+    }
+    if !is_headed(s) {
+        return Reached::Refused(Refusal {
+            number: 1,
+            place: 0,
+        });
+    }
+    if !record::times::times_stand(s, 0) {
+        return Reached::Refused(Refusal {
+            number: 10,
+            place: 0,
+        });
+    }
+    walk(s, 0, 20)
+}
+
+// The lines from `line` on, where the bytes before it are right; the record header and all lines where `line` is 0, or has not come.
+pub fn lines_from(s: &[u8], line: usize) -> Reached
+    ensures { λ r. ⌜ (Resumes (now (s .entry)) line → ReachedIs (now (s .entry)) r) ⌝ }
+{
+    if line == 0 {
+        return from_first(s);
+    }
+    if 72 <= line {
+        return from_first(s);
+    }
+    let from = start(line);
+    if s.len() < from {
+        return from_first(s);
+    }
+    walk(s, line, from)
+}
+
+// The first fault that an arrival shows of the main product header: shown earliest, then of the lowest number, then at the lowest place.
+pub fn header_fault(s: &[u8]) -> HeaderFault
+    ensures { λ r. ⌜ FirstIs (now (s .entry)) r ⌝ }
+{
+    match lines_from(s, 0) {
+        Reached::Refused(r) => HeaderFault::Refused(r),
+        Reached::Line { line: _, end: _ } => HeaderFault::Clean,
+    }
 }

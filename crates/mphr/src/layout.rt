@@ -5,7 +5,7 @@ ghost use mathlib.Core.Path.{_≡_};
 ghost use Prim.Native.Nat.{_≤_, _<_};
 ghost use lib.ListN.{getD};
 ghost use Rattle.mphr.specs.Layout.{names, widths, codeOf, kindFrom, codes, widthOf, kindOf, lineStart};
-ghost use Rattle.mphr.specs.Layout.{fieldOf, saidPlace, LineAfter};
+ghost use Rattle.mphr.specs.Layout.{fieldOf, saidPlace};
 
 // A field: where its line starts, how wide its value is, and of which kind.
 pub struct Place {
@@ -358,24 +358,6 @@ pub(crate) fn width(k: usize) -> usize
 {
     let table = WIDTHS;
     width_at(&table, k)
-}
-
-// Where the first line starts after byte n, the header's end counted as one; its end where none does. No fault of the header is
-// shown between.
-pub fn line_after(n: usize) -> usize
-    ensures { λ r. ⌜ LineAfter n r ⌝ }
-{
-    let table = WIDTHS;
-    let mut at: usize = 20;
-    let mut k: usize = 0;
-    while k < 72 {
-        if n < at {
-            return at;
-        }
-        at += width_at(&table, k) + 33;
-        k += 1;
-    }
-    at
 }
 
 pub(crate) fn start(k: usize) -> usize

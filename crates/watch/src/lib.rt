@@ -6,7 +6,7 @@ mod under_way;
 use crate::pending::Settled;
 use crate::pending::settle;
 use crate::under_way::fill;
-use crate::under_way::head_fault;
+use crate::under_way::head_lines;
 use crate::under_way::is_aim;
 use crate::under_way::keep;
 use calendar::Refusal;
@@ -19,7 +19,7 @@ use judge::parts::kind_in;
 use judge::parts::lesser;
 use judge::parts::run_of;
 use judge::parts::word_in;
-use mphr::faults::HeaderFault;
+use mphr::faults::Reached;
 ghost use mathlib.Core.Path.{_≡_};
 ghost use mathlib.Core.Bool.{true};
 ghost use Prim.Native.Nat.{_+_, _-_, _≤_, _<_};
@@ -47,6 +47,7 @@ pub struct Watch {
     pub due: usize,
     pub place: usize,
     pub next: usize,
+    pub line: usize,
     pub prev: u8,
     pub number: u8,
 }
@@ -358,7 +359,7 @@ fn start(w: Watch, part: &[u8]) -> Fed
     let mut v = w;
     let base = v.got;
     let got = keep(&mut v.head, base, part);
-    // A fault of the main header is shown where a line ends: until then what has come is not judged again.
+    // A fault of the main header is shown where a line ends: until then there is nothing to judge, and then from that line on.
     let next = v.next;
     if got < next {
         v.got = got;
@@ -367,8 +368,9 @@ fn start(w: Watch, part: &[u8]) -> Fed
             answer: Arrival::Waiting { count: 0, end: 0 },
         };
     }
-    match head_fault(&v.head, got) {
-        HeaderFault::Refused(r) => {
+    let from = v.line;
+    match head_lines(&v.head, got, from) {
+        Reached::Refused(r) => {
             v.number = r.number;
             v.place = r.place;
             return Fed {
@@ -376,17 +378,25 @@ fn start(w: Watch, part: &[u8]) -> Fed
                 answer: Arrival::Refused(r),
             };
         }
-        HeaderFault::Clean => {}
+        Reached::Line { line, end } => {
+            v.line = line;
+            v.next = end;
+        }
     }
     v.got = got;
     if got < 3307 {
-        v.next = mphr::layout::line_after(got);
         return Fed {
             watch: v,
             answer: Arrival::Waiting { count: 0, end: 0 },
         };
     }
     let d = judge::parts::declared_size(&v.head);
+    if !is_sane(got, 0, 3307, 1, d, 0, 1) {
+        return Fed {
+            watch: v,
+            answer: Arrival::Waiting { count: 0, end: 0 },
+        };
+    }
     if is_part(3307, d) {
         v.number = 6;
         v.place = 3307;
@@ -467,12 +477,12 @@ pub fn step(w: Watch, part: &[u8]) -> Fed
             answer: refusal(number, w.place),
         };
     }
-    let f = advance(w, part);
     if part.len() == 0 {
+        let f = advance(w, part);
         let answer = f.answer;
         return Fed { watch: w, answer };
     }
-    f
+    advance(w, part)
 }
 
 pub fn new() -> Watch
@@ -494,6 +504,7 @@ pub fn new() -> Watch
         due: 0,
         place: 0,
         next: 0,
+        line: 0,
         prev: 0,
         number: 0,
     }

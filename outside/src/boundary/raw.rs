@@ -88,6 +88,7 @@ pub struct Watch {
     due: usize,
     place: usize,
     next: usize,
+    line: usize,
     prev: u8,
     number: u8,
 }
@@ -109,6 +110,7 @@ const UNMADE: Watch = Watch {
     due: usize::MAX,
     place: usize::MAX,
     next: usize::MAX,
+    line: usize::MAX,
     prev: u8::MAX,
     number: u8::MAX,
 };

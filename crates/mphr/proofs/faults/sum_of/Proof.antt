@@ -1,28 +1,29 @@
--- `mphr::faults::sum_of` meets its contract: after j turns the loop has the sum of the totals 1 to j. Assumes nothing.
+-- `mphr::faults::sum_of` meets its contract: after j turns the loop has the sum of the totals 1 to j, where their fields are numbers. Assumes nothing.
 use native.Mathlib.Omega.{arith}
 use borrow.Author.Needs.{needs}
 use native.Mathlib.Numerals.{add-one}
-use mathlib.Core.Path.{_≡_, ap, _∙_}
+use mathlib.Core.Path.{_≡_, refl, ap, _∙_}
 use Prim.Native.Nat.{ℕ, _+_, _*_, _-_, _≤_}
 use Rattle.mphr.specs.Table.{sum}
+use Rattle.mphr.specs.Turning.{Counts}
 use Rattle.mphr.proofs.faults.sum_of.Statement.{statement}
 use Rattle.mphr.proofs.faults.sum_of.Tie as tie
 
 abbrev Inv-loop : tie.InvT-loop
-Inv-loop s v₀ j₀ v j = (j ≤ 8) × (v ≡ sum s j) × (v ≤ 23000000 * j)
+Inv-loop s v₀ j₀ v j = (j ≤ 8) × (Counts s → v ≡ sum s j) × (v ≤ 23000000 * j)
 
 abbrev μ-loop : tie.MeasureT-loop
 μ-loop s v₀ j₀ v j = 8 - j
 
 loop-holds : tie.Need-loop-holds Inv-loop μ-loop
 unfolding sum
-loop-holds c = search needs
+loop-holds c = (omega arith, λ _. refl, omega arith)
 
 add-total-of : tie.Need-add-total-of Inv-loop μ-loop
 add-total-of c = omega arith
 
 total-of-requires : tie.Need-total-of-requires Inv-loop μ-loop
-total-of-requires c κs = (omega arith, c .before .before .before .pre)
+total-of-requires c κs = omega arith
 
 add-v : tie.Need-add-v Inv-loop μ-loop
 add-v c = omega arith
@@ -35,10 +36,10 @@ loop-less c = omega arith
 
 loop-again : tie.Need-loop-again Inv-loop μ-loop
 unfolding sum
-loop-again c = (omega arith, rw add-one (omega arith), omega arith)
+loop-again c = (omega arith, λ y. rw add-one (omega (arith, c .before .before .loop .inv .1 y, c .total-of .ensures .0 y)), omega arith)
 
 returns : tie.Need-returns Inv-loop μ-loop
-returns c = let e : c .before .loop .j ≡ 8 = omega arith in c .before .loop .inv .1 ∙ ap (sum (c .before .before .before .args .s .now)) e
+returns c = λ y. let e : c .before .loop .j ≡ 8 = omega arith in c .before .loop .inv .1 y ∙ ap (sum (c .before .before .before .args .s .now)) e
 
 pub sum-of-spec : {M : Type 1} → statement M
 sum-of-spec =

@@ -1,9 +1,8 @@
--- `mphr::faults::total_of` meets its contract: the total's field. Assumes nothing.
+-- `mphr::faults::total_of` meets its contract: the total's field, whose count has at most six digits. Assumes nothing.
 use Prim.Native.Nat.{_+_, _*_}
 use denote.Ref.{now}
-use mathlib.Core.Bool.{false}
-use Rattle.text.proofs.Exact.{count-is, is-small}
-use Rattle.mphr.proofs.LineLaws.{total-is}
+use Rattle.text.proofs.Exact.{count-is}
+use Rattle.mphr.proofs.LineLaws.{total-is, count-most}
 use native.Mathlib.Omega.{arith}
 use mathlib.Core.Path.{sym, _∙_}
 use borrow.Author.Needs.{needs}
@@ -22,9 +21,9 @@ count-at-requires c κs = search needs
 returns : tie.Need-returns
 returns c =
     let s = c .before .before in
-    let n = s .pre .1 .counts (s .args .j) (omega arith) in
-    let e = c .count-at .ensures ∙ count-is (now (s .args .s)) (2675 + 39 * s .args .j) 6 n (omega arith) (omega (arith, s .pre .1 .come)) in
-    (e ∙ sym (total-is (now (s .args .s)) (s .args .j) (omega arith)), omega (arith, e, is-small false (now (s .args .s)) (2675 + 39 * s .args .j) 6 n))
+    let a = now (s .args .s) in
+    let i = 2675 + 39 * s .args .j in
+    (λ y. c .count-at .ensures ∙ count-is a i 6 (y .counts (s .args .j) (omega arith)) (omega arith) (omega (arith, y .come)) ∙ sym (total-is a (s .args .j) (omega arith)), omega (arith, c .count-at .ensures, count-most a i))
 
 pub total-of-spec : {M : Type 1} → statement M
 total-of-spec = tie.close (tie.spec mul-count-at add-count-at count-at-requires returns)

@@ -1,5 +1,5 @@
 -- `mphr::faults::turn` meets its contract: one line of reasons for each way out (TurnLaws). Assumes nothing.
-use Rattle.mphr.proofs.TurnLaws.{say-wait, say-2, say-3, say-size, say-counts, say-4, say-5, say-go}
+use Rattle.mphr.proofs.TurnLaws.{say-wait, say-2, say-3, say-4, say-5, say-go}
 use Rattle.mphr.proofs.LineLaws.{value-is}
 use Rattle.mphr.specs.Turning.{TurnedIs}
 use denote.Ref.{now}
@@ -50,7 +50,7 @@ returns-3 : tie.Need-returns-3
 returns-3 c = subst (TurnedIs (now (c .before .before .before .before .before .before .before .before .before .before .args .s)) (c .before .before .before .before .before .before .before .before .before .before .args .k)) (sym (c .refused2 .ensures)) (say-3 (c .before .before .before .before .before .before .before .before .before .before .pre .0) (c .before .before .before .before .before .before .before .width-at .ensures .0) (c .before .before .before .before .before .before .if1 .left) (sym (c .before .before .before .before .before .is-framed .ensures) ∙ not-false (c .before .before .before .before .before .is-framed .result) (c .before .before .before .before .if2 .left)) (sym (value-is (now (c .before .before .before .before .before .before .before .before .before .before .args .s)) (c .before .before .before .before .before .before .before .before .before .before .args .k) (c .before .before .before .before .before .before .before .before .before .before .args .at) (c .before .before .before .before .before .before .before .width-at .result) (c .before .before .before .before .before .before .before .before .before .before .pre .0 .at-is) (c .before .before .before .before .before .before .before .width-at .ensures .0) (c .before .before .before .kind-at .result) (c .before .before .is-value .result) (c .before .before .before .kind-at .ensures) (c .before .before .before .before .before .before .if1 .left) (c .before .before .is-value .ensures)) ∙ not-true (c .before .before .is-value .result) (c .before .if3 .taken)))
 
 later-requires : tie.Need-later-requires
-later-requires c κs = (say-size (c .before .before .before .before .before .before .before .before .before .pre .0) (c .before .before .before .before .before .before .width-at .ensures .0) (c .before .before .before .before .before .if1 .left) (sym (c .before .before .before .before .is-framed .ensures) ∙ not-false (c .before .before .before .before .is-framed .result) (c .before .before .before .if2 .left)) (sym (value-is (now (c .before .before .before .before .before .before .before .before .before .args .s)) (c .before .before .before .before .before .before .before .before .before .args .k) (c .before .before .before .before .before .before .before .before .before .args .at) (c .before .before .before .before .before .before .width-at .result) (c .before .before .before .before .before .before .before .before .before .pre .0 .at-is) (c .before .before .before .before .before .before .width-at .ensures .0) (c .before .before .kind-at .result) (c .before .is-value .result) (c .before .before .kind-at .ensures) (c .before .before .before .before .before .if1 .left) (c .before .is-value .ensures)) ∙ not-false (c .before .is-value .result) (c .if3 .left)), say-counts (c .before .before .before .before .before .before .before .before .before .pre .0) (c .before .before .before .before .before .before .width-at .ensures .0) (c .before .before .before .before .before .if1 .left) (sym (c .before .before .before .before .is-framed .ensures) ∙ not-false (c .before .before .before .before .is-framed .result) (c .before .before .before .if2 .left)) (sym (value-is (now (c .before .before .before .before .before .before .before .before .before .args .s)) (c .before .before .before .before .before .before .before .before .before .args .k) (c .before .before .before .before .before .before .before .before .before .args .at) (c .before .before .before .before .before .before .width-at .result) (c .before .before .before .before .before .before .before .before .before .pre .0 .at-is) (c .before .before .before .before .before .before .width-at .ensures .0) (c .before .before .kind-at .result) (c .before .is-value .result) (c .before .before .kind-at .ensures) (c .before .before .before .before .before .if1 .left) (c .before .is-value .ensures)) ∙ not-false (c .before .is-value .result) (c .if3 .left)))
+later-requires c κs = search needs
 
 refused-requires-3 : tie.Need-refused-requires-3
 refused-requires-3 c κs = search needs

@@ -39,56 +39,20 @@ place c = placed (ap saidPlace (sym (c .before .place .given .1)) ∙ c .before 
 abbrev K : tie.After-sort-number2 → tie.Else1
 K c = c .before .before .before .before .before .before .before
 
-main-come-requires : tie.Need-main-come-requires
-main-come-requires c κs = search needs
-
 slice-aggregate-judge-arrival : tie.Need-slice-aggregate-judge-arrival
 slice-aggregate-judge-arrival c = sym (length-take-le (c .before .main-come .result) (c .before .before .before .args .bytes .now) (c .before .main-come .ensures .0))
-
-judge-arrival-requires : tie.Need-judge-arrival-requires
-judge-arrival-requires c κs = search needs
-
-enum-known-r : tie.Need-enum-known-r
-enum-known-r c = search needs
 
 returns : tie.Need-returns
 returns c = let g = c .before .r .given in faulty (told (c .before .before .before) (Refused (g .0 .0)) (g .1))
 
-enum-told : tie.Need-enum-told
-enum-told c = search needs
-
 returns-2 : tie.Need-returns-2
 returns-2 c = let m = come (J (c .before)) in short-at (m .all (c .if1 .taken)) (clean (c .before)) (c .if1 .taken)
-
-field-place-requires : tie.Need-field-place-requires
-field-place-requires c κs = search needs
-
-enum-known-place : tie.Need-enum-known-place
-enum-known-place c = search needs
-
-enum-told-2 : tie.Need-enum-told-2
-enum-told-2 c = search needs
-
-no-field-requires : tie.Need-no-field-requires
-no-field-requires c κs = search needs
 
 returns-3 : tie.Need-returns-3
 returns-3 c =
     let f = c .before .before .before in
     let e = f .before in
     denied-with (c .no-field .ensures) (none (clean (e .before)) (all-come e) (λ d. not-known (ap saidPlace (sym (c .before .enum-told2 .given .1)) ∙ f .field-place .ensures) (d .known)))
-
-sort-of-requires : tie.Need-sort-of-requires
-sort-of-requires c κs = search needs
-
-sort-number-requires : tie.Need-sort-number-requires
-sort-number-requires c κs = search needs
-
-sort-number-requires-2 : tie.Need-sort-number-requires-2
-sort-number-requires-2 c κs = search needs
-
-no-field-requires-2 : tie.Need-no-field-requires-2
-no-field-requires-2 c κs = search needs
 
 -- the place's sort, by its number
 number-is : (c : tie.After-sort-number2) → c .before .sort-number .result ≡ sortNumber (sortOf (kindOf (S (J (K c .before)) .args .k)))
@@ -120,22 +84,22 @@ pub field-at-spec : {M : Type 1} → statement M
 field-at-spec =
     tie.close
     (tie.spec
-    main-come-requires
+    (λ c κs. search needs)
     slice-aggregate-judge-arrival
-    judge-arrival-requires
-    enum-known-r
+    (λ c κs. search needs)
+    (λ c. search needs)
     returns
-    enum-told
+    (λ c. search needs)
     returns-2
-    field-place-requires
-    enum-known-place
-    enum-told-2
-    no-field-requires
+    (λ c κs. search needs)
+    (λ c. search needs)
+    (λ c. search needs)
+    (λ c κs. search needs)
     returns-3
-    sort-of-requires
-    sort-number-requires
-    sort-number-requires-2
-    no-field-requires-2
+    (λ c κs. search needs)
+    (λ c κs. search needs)
+    (λ c κs. search needs)
+    (λ c κs. search needs)
     returns-4
     add-start
     returns-5)

@@ -31,29 +31,8 @@ F c = c .before .before .before
 east : (c : tie.After-known-told4) → NumberIs (S (N (F c)) .args .bytes .now) (latitudeField (S (N (F c)) .args .end) + 1) (B.Number (c .before .longitude .given .0 .0))
 east c = told2 (F c) (B.Number (c .before .longitude .given .0 .0)) (c .before .longitude .given .1)
 
-latitude-of-requires : tie.Need-latitude-of-requires
-latitude-of-requires c κs = search needs
-
-number-field-requires : tie.Need-number-field-requires
-number-field-requires c κs = search needs
-
-enum-known-r : tie.Need-enum-known-r
-enum-known-r c = search needs
-
-enum-known-latitude : tie.Need-enum-known-latitude
-enum-known-latitude c = search needs
-
 add-number-field : tie.Need-add-number-field
 add-number-field c = let n = c .before .before .before in omega (arith, n .before .latitude-of .ensures, latitude-small (S n .args .end))
-
-number-field-requires-2 : tie.Need-number-field-requires-2
-number-field-requires-2 c κs = search needs
-
-enum-known-r-2 : tie.Need-enum-known-r-2
-enum-known-r-2 c = search needs
-
-enum-known-longitude : tie.Need-enum-known-longitude
-enum-known-longitude c = search needs
 
 point-of-requires : tie.Need-point-of-requires
 point-of-requires c κs = (number-is-exact (north (F c .before)), number-is-exact (east c))
@@ -71,14 +50,14 @@ pub ground-point-spec : {M : Type 1} → statement M
 ground-point-spec =
     tie.close
     (tie.spec
-    latitude-of-requires
-    number-field-requires
-    enum-known-r
-    enum-known-latitude
+    (λ c κs. search needs)
+    (λ c κs. search needs)
+    (λ c. search needs)
+    (λ c. search needs)
     add-number-field
-    number-field-requires-2
-    enum-known-r-2
-    enum-known-longitude
+    (λ c κs. search needs)
+    (λ c. search needs)
+    (λ c. search needs)
     point-of-requires
     returns
     returns-2

@@ -26,24 +26,6 @@ part c = let g = c .before .before .start .given in told (A c) (F.Part (g .0 .0)
 read : (c : tie.After-read-number) → saidNumber (c .read-number .result) ≡ answer (numberIn (S (A c) .args .bytes .now) (S (A c) .args .k))
 read c = c .read-number .ensures ∙ number-read (part c)
 
-field-at-requires : tie.Need-field-at-requires
-field-at-requires c κs = search needs
-
-enum-known-r : tie.Need-enum-known-r
-enum-known-r c = search needs
-
-enum-known-start : tie.Need-enum-known-start
-enum-known-start c = search needs
-
-read-number-requires : tie.Need-read-number-requires
-read-number-requires c κs = search needs
-
-enum-known-x : tie.Need-enum-known-x
-enum-known-x c = search needs
-
-enum-known-r-2 : tie.Need-enum-known-r-2
-enum-known-r-2 c = search needs
-
 returns : tie.Need-returns
 returns c = let g = c .before .r .given in told (c .before .before .before) (F.Refused (g .0 .0)) (g .1)
 
@@ -57,12 +39,12 @@ pub number-field-spec : {M : Type 1} → statement M
 number-field-spec =
     tie.close
     (tie.spec
-    field-at-requires
-    enum-known-r
-    enum-known-start
-    read-number-requires
-    enum-known-x
-    enum-known-r-2
+    (λ c κs. search needs)
+    (λ c. search needs)
+    (λ c. search needs)
+    (λ c κs. search needs)
+    (λ c. search needs)
+    (λ c. search needs)
     returns
     returns-2
     returns-3)

@@ -24,29 +24,11 @@ north c = toZ-ofZ w64 (Y c .latitude .given .0 .0) (record { sfits = c .before .
 east : (c : tie.After-known-told2) → toZ w64 (ofZ w64 (c .before .longitude .given .0 .0)) ≡ c .before .longitude .given .0 .0
 east c = toZ-ofZ w64 (c .before .longitude .given .0 .0) (record { sfits = c .known-told2 .given .0 .1 })
 
-enum-told : tie.Need-enum-told
-enum-told c = search needs
-
-enum-known-latitude : tie.Need-enum-known-latitude
-enum-known-latitude c = search needs
-
-enum-told-2 : tie.Need-enum-told-2
-enum-told-2 c = search needs
-
-enum-known-longitude : tie.Need-enum-known-longitude
-enum-known-longitude c = search needs
-
 int-to-float-north : tie.Need-int-to-float-north
 int-to-float-north c = let t = c .before in subst (λ (z : ℤ). T (inFloat binary64 z)) (sym (north t)) (in-float (Y t .latitude .given .0 .0) (exact-whole (Y t .latitude .given .1) (S t .pre .0)))
 
 int-to-float-east : tie.Need-int-to-float-east
 int-to-float-east c = let t = c .before .before in subst (λ (z : ℤ). T (inFloat binary64 z)) (sym (east t)) (in-float (t .before .longitude .given .0 .0) (exact-whole (t .before .longitude .given .1) (S t .pre .1)))
-
-returns : tie.Need-returns
-returns c = search needs
-
-returns-2 : tie.Need-returns-2
-returns-2 c = search needs
 
 returns-3 : tie.Need-returns-3
 returns-3 c = let t = c .before .before in point-whole (Y t .latitude .given .1) (t .before .longitude .given .1) (north t) (east t)
@@ -55,12 +37,12 @@ pub point-of-spec : {M : Type 1} → statement M
 point-of-spec =
     tie.close
     (tie.spec
-    enum-told
-    enum-known-latitude
-    enum-told-2
-    enum-known-longitude
+    (λ c. search needs)
+    (λ c. search needs)
+    (λ c. search needs)
+    (λ c. search needs)
     int-to-float-north
     int-to-float-east
-    returns
-    returns-2
+    (λ c. search needs)
+    (λ c. search needs)
     returns-3)

@@ -32,29 +32,11 @@ read c =
     let e = c .before .before in
     c .read-header .ensures ∙ header-read (start-headed (opened (e .before) .clean) (reach e) (c .before .start-of .ensures))
 
-judge-arrival-requires : tie.Need-judge-arrival-requires
-judge-arrival-requires c κs = search needs
-
-enum-known-r : tie.Need-enum-known-r
-enum-known-r c = search needs
-
-enum-known-count : tie.Need-enum-known-count
-enum-known-count c = search needs
-
 returns : tie.Need-returns
 returns c = not-yet (opened (c .before)) (c .if1 .taken)
 
 start-of-requires : tie.Need-start-of-requires
 start-of-requires c κs = reach c
-
-read-header-requires : tie.Need-read-header-requires
-read-header-requires c κs = search needs
-
-enum-known-header : tie.Need-enum-known-header
-enum-known-header c = search needs
-
-enum-known-r-2 : tie.Need-enum-known-r-2
-enum-known-r-2 c = search needs
 
 returns-2 : tie.Need-returns-2
 returns-2 c = let g = c .before .r .given in faulty (told (c .before .before .before) (Refused (g .0 .0)) (g .1))
@@ -72,14 +54,14 @@ pub record-at-spec : {M : Type 1} → statement M
 record-at-spec =
     tie.close
     (tie.spec
-    judge-arrival-requires
-    enum-known-r
-    enum-known-count
+    (λ c κs. search needs)
+    (λ c. search needs)
+    (λ c. search needs)
     returns
     start-of-requires
-    read-header-requires
-    enum-known-header
-    enum-known-r-2
+    (λ c κs. search needs)
+    (λ c. search needs)
+    (λ c. search needs)
     returns-2
     returns-3
     returns-4)

@@ -25,9 +25,6 @@ returns c = inl (c .if1 .taken, refl)
 loop-holds : tie.Need-loop-holds Inv-loop μ-loop
 loop-holds c = walking-first (c .before .before .pre) (c .if1 .left)
 
-size-at-requires : tie.Need-size-at-requires Inv-loop μ-loop
-size-at-requires c κs = search needs
-
 size : (c : tie.After-size-at Inv-loop μ-loop) → c .size-at .result ≡ sizeAt (c .before .before .before .before .before .args .s .now) (c .before .before .loop .at)
 size c = let w = in-turn (c .before) in c .size-at .ensures ∙ size-there (c .before .before .before .before .before .args .s .now) (c .before .before .loop .at) (omega (arith, w .least, w .come))
 
@@ -54,7 +51,7 @@ start-of-spec =
     μ-loop
     returns
     loop-holds
-    size-at-requires
+    (λ c κs. search needs)
     add-at
     add-n
     loop-less

@@ -25,27 +25,6 @@ part c = let g = c .before .before .start .given in told (A c) (F.Part (g .0 .0)
 read : (c : tie.After-read-general) → saidGeneral (c .read-general .result) ≡ answer (timeIn (S (A c) .args .bytes .now) (S (A c) .args .k) (S (A c) .args .long))
 read c = c .read-general .ensures ∙ time-read (S (A c) .args .long) (part c)
 
-times-of-requires : tie.Need-times-of-requires
-times-of-requires c κs = search needs
-
-field-at-requires : tie.Need-field-at-requires
-field-at-requires c κs = search needs
-
-enum-known-r : tie.Need-enum-known-r
-enum-known-r c = search needs
-
-enum-known-start : tie.Need-enum-known-start
-enum-known-start c = search needs
-
-read-general-requires : tie.Need-read-general-requires
-read-general-requires c κs = search needs
-
-enum-known-x : tie.Need-enum-known-x
-enum-known-x c = search needs
-
-enum-known-r-2 : tie.Need-enum-known-r-2
-enum-known-r-2 c = search needs
-
 returns : tie.Need-returns
 returns c = let g = c .before .r .given in told (c .before .before .before) (F.Refused (g .0 .0)) (g .1)
 
@@ -59,13 +38,13 @@ pub time-of-spec : {M : Type 1} → statement M
 time-of-spec =
     tie.close
     (tie.spec
-    times-of-requires
-    field-at-requires
-    enum-known-r
-    enum-known-start
-    read-general-requires
-    enum-known-x
-    enum-known-r-2
+    (λ c κs. search needs)
+    (λ c κs. search needs)
+    (λ c. search needs)
+    (λ c. search needs)
+    (λ c κs. search needs)
+    (λ c. search needs)
+    (λ c. search needs)
     returns
     returns-2
     returns-3)

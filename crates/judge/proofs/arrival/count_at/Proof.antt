@@ -6,11 +6,12 @@ use Rattle.text.proofs.Exact.{count-is}
 use Rattle.judge.proofs.arrival.count_at.Statement.{statement}
 use Rattle.judge.proofs.arrival.count_at.Tie as tie
 
-count-at-requires : tie.Need-count-at-requires
-count-at-requires c κs = search needs
-
 returns : tie.Need-returns
 returns c k = let a = c .before .before .args in c .count-at .ensures ∙ count-is (now (a .s)) (a .at) (a .width) (k .number) (k .small) (k .come)
 
 pub count-at-spec : {M : Type 1} → statement M
-count-at-spec = tie.close (tie.spec count-at-requires returns)
+count-at-spec = 
+    tie.close
+    (tie.spec
+    (λ c κs. search needs)
+    returns)

@@ -6,20 +6,11 @@ use borrow.Author.Needs.{needs}
 use Rattle.judge.proofs.arrival.ended.Statement.{statement}
 use Rattle.judge.proofs.arrival.ended.Tie as tie
 
-is-short-requires : tie.Need-is-short-requires
-is-short-requires c κs = search needs
-
-refusal-requires : tie.Need-refusal-requires
-refusal-requires c κs = search needs
-
 returns : tie.Need-returns
 returns c =
     let e = c .before in
     let s = e .before .before .before .before .before in
     said (now (s .args .s)) (c .refusal .ensures) (say-15 (s .pre) (e .before .is-short .ensures .some (e .if1 .taken)))
-
-refusal-requires-2 : tie.Need-refusal-requires-2
-refusal-requires-2 c κs = search needs
 
 returns-2 : tie.Need-returns-2
 returns-2 c =
@@ -31,4 +22,12 @@ returns-3 : tie.Need-returns-3
 returns-3 c = say-whole (c .before .before .before .before .before .before .pre) (c .before .before .is-short .ensures .none (c .before .if1 .left)) (c .if2 .left)
 
 pub ended-spec : {M : Type 1} → statement M
-ended-spec = tie.close (tie.spec is-short-requires refusal-requires returns refusal-requires-2 returns-2 returns-3)
+ended-spec = 
+    tie.close
+    (tie.spec
+    (λ c κs. search needs)
+    (λ c κs. search needs)
+    returns
+    (λ c κs. search needs)
+    returns-2
+    returns-3)

@@ -19,12 +19,6 @@ S c = c .before .before .before .before
 opened : (c : tie.After-known-told2) → Open (now (S c .args .s)) (c .before .answer2 .given .0 .0) (c .before .answer2 .given .0 .1 .0)
 opened c = let g = c .before .answer2 .given in subst (Judged (now (S c .args .s))) {y = Waiting (g .0 .0) (g .0 .1 .0)} (g .1) (S c .pre)
 
-enum-known-answer : tie.Need-enum-known-answer
-enum-known-answer c = search needs
-
-enum-known-answer-2 : tie.Need-enum-known-answer-2
-enum-known-answer-2 c = search needs
-
 returns : tie.Need-returns
 returns c = let o = opened (c .before) in (o .clean, inl (none-yet o (c .if1 .taken)))
 
@@ -51,8 +45,8 @@ pub extent-of-spec : {M : Type 1} → statement M
 extent-of-spec =
     tie.close
     (tie.spec
-    enum-known-answer
-    enum-known-answer-2
+    (λ c. search needs)
+    (λ c. search needs)
     returns
     size-of-requires
     returns-2

@@ -40,14 +40,8 @@ loop-holds c = (omega arith, omega arith, λ k l u. absurd (omega arith))
 mul-if1 : tie.Need-mul-if1 Inv-loop μ-loop
 mul-if1 c = omega arith
 
-shared-slice-read-if1 : tie.Need-shared-slice-read-if1 Inv-loop μ-loop
-shared-slice-read-if1 c = search needs
-
 mul-if1-2 : tie.Need-mul-if1-2 Inv-loop μ-loop
 mul-if1-2 c = omega arith
-
-shared-slice-read-if1-2 : tie.Need-shared-slice-read-if1-2 Inv-loop μ-loop
-shared-slice-read-if1-2 c = search needs
 
 returns : tie.Need-returns Inv-loop μ-loop
 returns c =
@@ -76,9 +70,9 @@ is-short-spec =
     μ-loop
     loop-holds
     mul-if1
-    shared-slice-read-if1
+    (λ c. search needs)
     mul-if1-2
-    shared-slice-read-if1-2
+    (λ c. search needs)
     returns
     add-c
     loop-less

@@ -13,21 +13,6 @@ use Rattle.judge.proofs.arrival.judged.Tie as tie
 told : (c : tie.After-header-fault) (r : HeaderFault) → c .header-fault .result ≡ r → FirstIs (now (c .before .before .args .s)) r
 told c r e = subst (FirstIs (now (c .before .before .args .s))) e (c .header-fault .ensures)
 
-header-fault-requires : tie.Need-header-fault-requires
-header-fault-requires c κs = search needs
-
-enum-known-r : tie.Need-enum-known-r
-enum-known-r c = search needs
-
-at-once-requires : tie.Need-at-once-requires
-at-once-requires c κs = search needs
-
-enum-told : tie.Need-enum-told
-enum-told c = search needs
-
-at-once-requires-2 : tie.Need-at-once-requires-2
-at-once-requires-2 c κs = search needs
-
 returns : tie.Need-returns
 returns c = let e = c .before in told-at-once (c .at-once2 .ensures) (open-early (told (e .before .before .before) F.Clean (e .before .enum-told .given .1)) (e .if1 .taken))
 
@@ -37,19 +22,16 @@ walk-requires c κs = record { clean = told (c .before .before .before) F.Clean 
 returns-2 : tie.Need-returns-2
 returns-2 c = let e = c .before in told-at-once (c .at-once .ensures) (hand-on (told (e .before .before .before) (F.Refused (e .before .r .given .0 .0)) (e .before .r .given .1)))
 
-returns-3 : tie.Need-returns-3
-returns-3 c = search needs
-
 pub judged-spec : {M : Type 1} → statement M
 judged-spec =
     tie.close
     (tie.spec
-    header-fault-requires
-    enum-known-r
-    at-once-requires
-    enum-told
-    at-once-requires-2
+    (λ c κs. search needs)
+    (λ c. search needs)
+    (λ c κs. search needs)
+    (λ c. search needs)
+    (λ c κs. search needs)
     returns
     walk-requires
     returns-2
-    returns-3)
+    (λ c. search needs))

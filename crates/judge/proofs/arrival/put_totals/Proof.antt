@@ -21,9 +21,6 @@ mul-count-at c = omega arith
 add-count-at : tie.Need-add-count-at Inv-loop μ-loop
 add-count-at c = omega arith
 
-count-at-requires : tie.Need-count-at-requires Inv-loop μ-loop
-count-at-requires c κs = search needs
-
 mul-totals : tie.Need-mul-totals Inv-loop μ-loop
 mul-totals c = omega arith
 
@@ -56,7 +53,7 @@ put-totals-spec =
     loop-holds
     mul-count-at
     add-count-at
-    count-at-requires
+    (λ c κs. search needs)
     mul-totals
     slice-write-totals
     add-j

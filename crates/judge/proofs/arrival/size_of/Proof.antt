@@ -4,11 +4,12 @@ use Rattle.judge.proofs.CountLaws.{size-said}
 use Rattle.judge.proofs.arrival.size_of.Statement.{statement}
 use Rattle.judge.proofs.arrival.size_of.Tie as tie
 
-count-at-requires : tie.Need-count-at-requires
-count-at-requires c κs = search needs
-
 returns : tie.Need-returns
 returns c = size-said (c .before .before .pre) (c .count-at .ensures)
 
 pub size-of-spec : {M : Type 1} → statement M
-size-of-spec = tie.close (tie.spec count-at-requires returns)
+size-of-spec = 
+    tie.close
+    (tie.spec
+    (λ c κs. search needs)
+    returns)

@@ -48,80 +48,23 @@ clear c = told (c .before .before .before) (S.Clear (c .before .v .given .0 .0))
 closed : (c : tie.After-close-record) (r : Body) → c .close-record .result ≡ r → BodyIs (a (R (W (c .before)))) (St (R (W (c .before))) .args .at) (St (R (W (c .before))) .args .at + W (c .before) .word .result) (c .before .before .v .given .0 .0) r
 closed c r e = subst (BodyIs (a (R (W (c .before)))) (St (R (W (c .before))) .args .at) (St (R (W (c .before))) .args .at + W (c .before) .word .result) (c .before .before .v .given .0 .0)) e (c .close-record .ensures)
 
-add-if1 : tie.Need-add-if1
-add-if1 c = search needs
-
 returns : tie.Need-returns
 returns c = say-short (c .before .before .before .before .pre .0) (c .if1 .taken)
 
 rank-requires : tie.Need-rank-requires
 rank-requires c κs = (ranking (c .before .before .before .before .pre .0) (c .if1 .left), c .before .before .before .before .pre .1)
 
-add-refusal : tie.Need-add-refusal
-add-refusal c = search needs
-
-refusal-requires : tie.Need-refusal-requires
-refusal-requires c κs = search needs
-
 returns-2 : tie.Need-returns-2
 returns-2 c = let k = c .before .before in said (a k) (c .refusal .ensures) (say-6-head (St k .pre .0) (come k) (k .rank .ensures) (c .before .if2 .taken))
-
-refusal-requires-2 : tie.Need-refusal-requires-2
-refusal-requires-2 c κs = search needs
 
 returns-3 : tie.Need-returns-3
 returns-3 c = let k = c .before .before .before in said (a k) (c .refusal2 .ensures) (say-head (St k .pre .0) (come k) (k .rank .ensures) (c .before .before .if2 .left) (c .before .if3 .taken))
 
-add-word : tie.Need-add-word
-add-word c = search needs
-
-word-requires : tie.Need-word-requires
-word-requires c κs = search needs
-
-add-to : tie.Need-add-to
-add-to c = search needs
-
 settle-requires : tie.Need-settle-requires
 settle-requires c κs = settling (St (c .before .before .before) .pre .0) (come (c .before .before .before)) (c .before .before .before .rank .ensures) (high c) (c .word .ensures .0)
 
-enum-known-q : tie.Need-enum-known-q
-enum-known-q c = search needs
-
-refusal-requires-3 : tie.Need-refusal-requires-3
-refusal-requires-3 c κs = search needs
-
-enum-known-q-2 : tie.Need-enum-known-q-2
-enum-known-q-2 c = search needs
-
-refusal-requires-4 : tie.Need-refusal-requires-4
-refusal-requires-4 c κs = search needs
-
-enum-known-v : tie.Need-enum-known-v
-enum-known-v c = search needs
-
 close-record-requires : tie.Need-close-record-requires
 close-record-requires c κs = let w = W c in bodied (St (R w) .pre .0) (come (R w)) (R w .rank .ensures) (high w) (w .word .ensures .0)
-
-enum-told : tie.Need-enum-told
-enum-told c = search needs
-
-enum-told-2 : tie.Need-enum-told-2
-enum-told-2 c = search needs
-
-refusal-requires-5 : tie.Need-refusal-requires-5
-refusal-requires-5 c κs = search needs
-
-enum-told-3 : tie.Need-enum-told-3
-enum-told-3 c = search needs
-
-refusal-requires-6 : tie.Need-refusal-requires-6
-refusal-requires-6 c κs = search needs
-
-enum-known-pointers : tie.Need-enum-known-pointers
-enum-known-pointers c = search needs
-
-shared-slice-read-t33 : tie.Need-shared-slice-read-t33
-shared-slice-read-t33 c = search needs
 
 returns-4 : tie.Need-returns-4
 returns-4 c =
@@ -170,31 +113,31 @@ pub turn-spec : {M : Type 1} → statement M
 turn-spec =
     tie.close
     (tie.spec
-    add-if1
+    (λ c. search needs)
     returns
     rank-requires
-    add-refusal
-    refusal-requires
+    (λ c. search needs)
+    (λ c κs. search needs)
     returns-2
-    refusal-requires-2
+    (λ c κs. search needs)
     returns-3
-    add-word
-    word-requires
-    add-to
+    (λ c. search needs)
+    (λ c κs. search needs)
+    (λ c. search needs)
     settle-requires
-    enum-known-q
-    refusal-requires-3
-    enum-known-q-2
-    refusal-requires-4
-    enum-known-v
+    (λ c. search needs)
+    (λ c κs. search needs)
+    (λ c. search needs)
+    (λ c κs. search needs)
+    (λ c. search needs)
     close-record-requires
-    enum-told
-    enum-told-2
-    refusal-requires-5
-    enum-told-3
-    refusal-requires-6
-    enum-known-pointers
-    shared-slice-read-t33
+    (λ c. search needs)
+    (λ c. search needs)
+    (λ c κs. search needs)
+    (λ c. search needs)
+    (λ c κs. search needs)
+    (λ c. search needs)
+    (λ c. search needs)
     returns-4
     returns-5
     returns-6

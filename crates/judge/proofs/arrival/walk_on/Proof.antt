@@ -137,12 +137,6 @@ one-of : {a : List ℕ} {r x y : Stretch} → (r ≡ x) ⊎ (r ≡ y) → Stretc
 one-of (inl e) m n = rw e m
 one-of (inr e) m n = rw e n
 
-no-pointers-requires : tie.Need-no-pointers-requires Inv-loop μ-loop
-no-pointers-requires c κs = search needs
-
-no-hold-requires : tie.Need-no-hold-requires Inv-loop μ-loop
-no-hold-requires c κs = search needs
-
 loop-holds : tie.Need-loop-holds Inv-loop μ-loop
 unfolding firstAfter mayFollow
 loop-holds c =
@@ -159,16 +153,10 @@ loop-holds c =
       even-none (c .no-stretch .ensures),
     )
 
-no-stretch-requires : tie.Need-no-stretch-requires Inv-loop μ-loop
-no-stretch-requires c κs = search needs
-
 ease-requires : tie.Need-ease-requires Inv-loop μ-loop
 ease-requires c κs =
     let l = c .before .before in
     (l .loop .inv .1, l .loop .inv .3, walking l .d-is, c .before .loop-test .taken, walking l .small)
-
-slice-aggregate-turn : tie.Need-slice-aggregate-turn Inv-loop μ-loop
-slice-aggregate-turn c = search needs
 
 turn-requires : tie.Need-turn-requires Inv-loop μ-loop
 turn-requires c κs =
@@ -176,17 +164,8 @@ turn-requires c κs =
     let y = walking (A e) in
     (record { d-is = y .d-is; small = y .small; room = e .before .before .loop-test .taken; totals = y .totals; turn = A e .loop .inv .0; kept = eased e }, A e .loop .inv .2)
 
-enum-known-answer : tie.Need-enum-known-answer Inv-loop μ-loop
-enum-known-answer c = search needs
-
-same-length : tie.Need-same-length Inv-loop μ-loop
-same-length c = search needs
-
 returns : tie.Need-returns Inv-loop μ-loop
 returns c = (told (c .before .before .before) (Stop (c .before .answer .given .0 .0)) (c .before .answer .given .1), A (T (c .before .before .before)) .loop .inv .8)
-
-enum-known-to : tie.Need-enum-known-to Inv-loop μ-loop
-enum-known-to c = search needs
 
 cast-k : tie.Need-cast-k Inv-loop μ-loop
 cast-k c = record { fits = omega (arith, gone c .eight) }
@@ -212,9 +191,6 @@ shared-slice-read-run-of c = let k = c .before .before in omega (arith, gone k .
 sub-run-of-2 : tie.Need-sub-run-of-2 Inv-loop μ-loop
 sub-run-of-2 c = reached (c .before .before)
 
-run-of-requires : tie.Need-run-of-requires Inv-loop μ-loop
-run-of-requires c κs = search needs
-
 add-tally : tie.Need-add-tally Inv-loop μ-loop
 add-tally c = let k = K (c .before) in record { fits = omega (arith, counted (c .before) .2, walking (L k) .totals .same (class k) (gone k .eight), walking (L k) .totals .small (class k) (gone k .eight)) }
 
@@ -239,9 +215,6 @@ add-grown c = record { fits = omega (arith, counted (R c), walking (L (K (R c)))
 grown-requires : tie.Need-grown-requires Inv-loop μ-loop
 grown-requires c κs = let r = R c in let i = L (K r) .loop .inv in omega (arith, i .7, counted r, i .0 .inside, walking (L (K r)))
 
-longer-requires : tie.Need-longer-requires Inv-loop μ-loop
-longer-requires c κs = search needs
-
 loop-less : tie.Need-loop-less Inv-loop μ-loop
 loop-less c = let r = R (G c) in let k = K r in omega (arith, counted r .0, gone k .further, T (k .before .before .before) .before .before .loop-test .taken)
 
@@ -265,16 +238,10 @@ loop-again c =
       one-of (c .longer .ensures) (v .8) g,
     )
 
-slice-aggregate-ended : tie.Need-slice-aggregate-ended Inv-loop μ-loop
-slice-aggregate-ended c = search needs
-
 ended-requires : tie.Need-ended-requires Inv-loop μ-loop
 ended-requires c κs =
     let l = c .before .before in
     over-at (walking l .d-is) (omega (arith, c .before .loop-test .left, l .loop .inv .0 .inside, walking l)) (walking l .totals) (l .loop .inv .0)
-
-same-length-2 : tie.Need-same-length-2 Inv-loop μ-loop
-same-length-2 c = search needs
 
 returns-2 : tie.Need-returns-2 Inv-loop μ-loop
 returns-2 c = (c .ended .ensures, c .before .before .before .loop .inv .8)
@@ -285,17 +252,17 @@ walk-on-spec =
     (tie.spec
     Inv-loop
     μ-loop
-    no-pointers-requires
-    no-hold-requires
-    no-stretch-requires
+    (λ c κs. search needs)
+    (λ c κs. search needs)
+    (λ c κs. search needs)
     loop-holds
     ease-requires
-    slice-aggregate-turn
+    (λ c. search needs)
     turn-requires
-    enum-known-answer
-    same-length
+    (λ c. search needs)
+    (λ c. search needs)
     returns
-    enum-known-to
+    (λ c. search needs)
     cast-k
     mul-n
     array-read-n
@@ -304,7 +271,7 @@ walk-on-spec =
     mul-run-of
     shared-slice-read-run-of
     sub-run-of-2
-    run-of-requires
+    (λ c κs. search needs)
     add-tally
     mul-tally
     array-write-tally
@@ -313,10 +280,10 @@ walk-on-spec =
     sub-grown
     add-grown
     grown-requires
-    longer-requires
+    (λ c κs. search needs)
     loop-less
     loop-again
-    slice-aggregate-ended
+    (λ c. search needs)
     ended-requires
-    same-length-2
+    (λ c. search needs)
     returns-2)

@@ -16,9 +16,6 @@ left-of at d h false e = sym (le-ltb d (at + 20) (let g = ltb-false (d - at) 20 
 returns : tie.Need-returns
 returns c = sym (ap (λ (b : Bool). b && ltb (c .before .args .d) (c .before .args .at + 20)) (le-ltb (c .before .args .at) (c .before .args .d) (omega arith)))
 
-sub-result : tie.Need-sub-result
-sub-result c = search needs
-
 returns-2 : tie.Need-returns-2
 returns-2 c =
     let at = c .before .args .at in
@@ -26,4 +23,9 @@ returns-2 c =
     left-of at d (omega arith) _ refl ∙ sym (ap (λ (b : Bool). b && ltb d (at + 20)) (lt-ltb at d (omega arith)))
 
 pub is-part-spec : {M : Type 1} → statement M
-is-part-spec = tie.close (tie.spec returns sub-result returns-2)
+is-part-spec = 
+    tie.close
+    (tie.spec
+    returns
+    (λ c. search needs)
+    returns-2)

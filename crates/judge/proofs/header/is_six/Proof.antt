@@ -22,4 +22,10 @@ returns-4 c = record {
 }
 
 pub is-six-spec : {M : Type 1} → statement M
-is-six-spec = tie.close (tie.spec returns returns-2 returns-3 returns-4)
+is-six-spec = 
+    tie.close
+    (tie.spec
+    returns
+    returns-2
+    returns-3
+    returns-4)

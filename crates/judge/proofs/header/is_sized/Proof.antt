@@ -22,4 +22,10 @@ returns-4 c = record {
 }
 
 pub is-sized-spec : {M : Type 1} → statement M
-is-sized-spec = tie.close (tie.spec returns returns-2 returns-3 returns-4)
+is-sized-spec = 
+    tie.close
+    (tie.spec
+    returns
+    returns-2
+    returns-3
+    returns-4)

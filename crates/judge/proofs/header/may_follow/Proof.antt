@@ -10,17 +10,8 @@ use Rattle.judge.proofs.header.may_follow.Lts as lts
 sub-result : tie.Need-sub-result
 sub-result c = omega (arith, class-most (c .args .last) (c .pre .0))
 
-cast-result : tie.Need-cast-result
-cast-result c = search needs
-
 sub-result-2 : tie.Need-sub-result-2
 sub-result-2 c = omega (arith, class-most (c .args .class) (c .pre .1))
-
-cast-result-2 : tie.Need-cast-result-2
-cast-result-2 c = search needs
-
-mul-result : tie.Need-mul-result
-mul-result c = search needs
 
 index-1-result : tie.Need-index-1-result
 index-1-result c = omega (arith, class-most (c .args .last) (c .pre .0))
@@ -40,10 +31,10 @@ may-follow-spec =
     tie.close
     (tie.spec
     sub-result
-    cast-result
+    (λ c. search needs)
     sub-result-2
-    cast-result-2
-    mul-result
+    (λ c. search needs)
+    (λ c. search needs)
     index-1-result
     index-2-result
     returns)

@@ -10,12 +10,6 @@ use borrow.Author.Needs.{needs}
 use Rattle.judge.proofs.header.rank.Statement.{statement}
 use Rattle.judge.proofs.header.rank.Tie as tie
 
-sub-rank-in : tie.Need-sub-rank-in
-sub-rank-in c = search needs
-
-rank-in-requires : tie.Need-rank-in-requires
-rank-in-requires c κs = search needs
-
 returns : tie.Need-returns
 returns c =
     let s = c .before .before .before .before in
@@ -24,4 +18,9 @@ returns c =
     (omega (arith, k .room, k .d-is)) (omega (arith, k .d-is)) (k .known) (k .totals) (c .rank-in .ensures (s .pre .1))
 
 pub rank-spec : {M : Type 1} → statement M
-rank-spec = tie.close (tie.spec sub-rank-in rank-in-requires returns)
+rank-spec = 
+    tie.close
+    (tie.spec
+    (λ c. search needs)
+    (λ c κs. search needs)
+    returns)

@@ -25,18 +25,6 @@ use Rattle.judge.proofs.header.may_follow.Reads as may-follow-reads
 use Rattle.record.proofs.header.is_class.Reads as is-class-reads
 use Rattle.record.proofs.header.is_group.Reads as is-group-reads
 
-shared-slice-read-class : tie.Need-shared-slice-read-class
-shared-slice-read-class c = search needs
-
-add-word : tie.Need-add-word
-add-word c = search needs
-
-word-requires : tie.Need-word-requires
-word-requires c κs = search needs
-
-is-six-requires : tie.Need-is-six-requires
-is-six-requires c κs = search needs
-
 abbrev St : (c : tie.After-word) → tie.Start
 St c = c .before .before .before .before .before
 
@@ -65,20 +53,8 @@ not-misplaced c ruled m = clash (sym (m .against) ∙ sym (c .before .may-follow
 returns : tie.Need-returns
 returns c ruled = rank-6 (six-in (c .before .before .word .ensures .0) (c .before .is-six .ensures) (c .if1 .taken))
 
-is-class-requires : tie.Need-is-class-requires
-is-class-requires c κs = search needs
-
 returns-2 : tie.Need-returns-2
 returns-2 c ruled = rank-7 (no-six (c .before .before)) (no-class (a (c .before .before .before .before)) (i (c .before .before .before .before)) (sym (c .before .is-class .ensures) ∙ not-true (c .before .is-class .result) (c .if2 .taken)))
-
-add-is-group : tie.Need-add-is-group
-add-is-group c = search needs
-
-shared-slice-read-is-group : tie.Need-shared-slice-read-is-group
-shared-slice-read-is-group c = search needs
-
-is-group-requires : tie.Need-is-group-requires
-is-group-requires c κs = search needs
 
 returns-3 : tie.Need-returns-3
 returns-3 c ruled = rank-7 (no-six (c .before .before .before .before .before)) (no-group (a (c .before .before .before .before .before .before .before)) (i (c .before .before .before .before .before .before .before)) (a-class (c .before .before .before)) (sym (c .before .is-group .ensures) ∙ not-true (c .before .is-group .result) (c .if3 .taken)))
@@ -90,9 +66,6 @@ returns-4 : tie.Need-returns-4
 returns-4 c ruled =
     let e = c .before .before in
     rank-8 (no-six (e .before .before .before .before .before)) (not-unknown e) (record { before = St (W3 e) .pre .known; known = a-class (e .before .before .before); against = sym (c .before .may-follow .ensures ruled) ∙ not-true (c .before .may-follow .result) (c .if4 .taken) })
-
-is-sized-requires : tie.Need-is-sized-requires
-is-sized-requires c κs = search needs
 
 returns-5 : tie.Need-returns-5
 returns-5 c ruled =
@@ -161,20 +134,20 @@ pub rank-in-spec : {M : Type 1} → statement M
 rank-in-spec =
     tie.close
     (tie.spec
-    shared-slice-read-class
-    add-word
-    word-requires
-    is-six-requires
+    (λ c. search needs)
+    (λ c. search needs)
+    (λ c κs. search needs)
+    (λ c κs. search needs)
     returns
-    is-class-requires
+    (λ c κs. search needs)
     returns-2
-    add-is-group
-    shared-slice-read-is-group
-    is-group-requires
+    (λ c. search needs)
+    (λ c. search needs)
+    (λ c κs. search needs)
     returns-3
     may-follow-requires
     returns-4
-    is-sized-requires
+    (λ c κs. search needs)
     returns-5
     stand-requires
     returns-6

@@ -4,11 +4,12 @@ use Rattle.judge.proofs.CountLaws.{size-said}
 use Rattle.judge.proofs.parts.declared_size.Statement.{statement}
 use Rattle.judge.proofs.parts.declared_size.Tie as tie
 
-count-at-requires : tie.Need-count-at-requires
-count-at-requires c κs = search needs
-
 returns : tie.Need-returns
 returns c b = size-said b (c .count-at .ensures)
 
 pub declared-size-spec : {M : Type 1} → statement M
-declared-size-spec = tie.close (tie.spec count-at-requires returns)
+declared-size-spec = 
+    tie.close
+    (tie.spec
+    (λ c κs. search needs)
+    returns)

@@ -7,9 +7,6 @@ use Rattle.judge.proofs.RankLaws.{clash}
 use Rattle.judge.proofs.parts.header_rank.Statement.{statement}
 use Rattle.judge.proofs.parts.header_rank.Tie as tie
 
-is-class-requires : tie.Need-is-class-requires
-is-class-requires c κs = search needs
-
 returns : tie.Need-returns
 returns c k ruled = clash (sym (sym (c .before .is-class .ensures) ∙ not-true (c .before .is-class .result) (c .if1 .taken)) ∙ k)
 
@@ -18,8 +15,11 @@ rank-in-requires c κs =
     let e = c .before .before .before in
     record { come = search needs; known = sym (e .before .is-class .ensures) ∙ not-false (e .before .is-class .result) (e .if1 .left); nine = search needs; nine′ = search needs }
 
-returns-2 : tie.Need-returns-2
-returns-2 c = search needs
-
 pub header-rank-spec : {M : Type 1} → statement M
-header-rank-spec = tie.close (tie.spec is-class-requires returns rank-in-requires returns-2)
+header-rank-spec = 
+    tie.close
+    (tie.spec
+    (λ c κs. search needs)
+    returns
+    rank-in-requires
+    (λ c. search needs))

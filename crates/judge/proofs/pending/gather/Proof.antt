@@ -50,9 +50,6 @@ loop-holds c = let s = c .before in (zero-le, refl, walk-from (s .pre .0), got-n
 look-at-requires : tie.Need-look-at-requires Inv-loop μ-loop
 look-at-requires c κs = looking (c .before .loop .inv .2) (c .loop-test .taken)
 
-enum-told : tie.Need-enum-told Inv-loop μ-loop
-enum-told c = search needs
-
 add-word : tie.Need-add-word Inv-loop μ-loop
 add-word c = record { fits = omega (arith, room (c .before .before)) }
 
@@ -71,9 +68,6 @@ loop-again c =
     let i = L d .loop .inv in
     (i .0, i .1, walk-on (i .2) (d .before .loop-test .taken) (c .word .result) (c .word .ensures .0), got-pass (i .2) (d .before .loop-test .taken) (i .3) (c .word .result) (c .word .ensures .0) (told d K.Pass (c .before .enum-told .given .1)))
 
-enum-told-2 : tie.Need-enum-told-2 Inv-loop μ-loop
-enum-told-2 c = search needs
-
 add-q-2 : tie.Need-add-q-2 Inv-loop μ-loop
 add-q-2 c = record { fits = omega (arith, room (c .before .before), wide (c .before .before) (missed c .ipr)) }
 
@@ -86,23 +80,11 @@ loop-again-2 c =
     let i = L d .loop .inv in
     (i .0, i .1, walk-on (i .2) (d .before .loop-test .taken) 27 (wide d (missed c .ipr)), got-pass (i .2) (d .before .loop-test .taken) (i .3) 27 (wide d (missed c .ipr)) (missed c .not-met))
 
-enum-told-3 : tie.Need-enum-told-3 Inv-loop μ-loop
-enum-told-3 c = search needs
-
-add-result : tie.Need-add-result Inv-loop μ-loop
-add-result c = search needs
-
 same-length : tie.Need-same-length Inv-loop μ-loop
 same-length c = L (c .before .before) .loop .inv .1
 
 returns : tie.Need-returns Inv-loop μ-loop
 returns c = let i = L (c .before .before) .loop .inv in record { same = i .1; all = λ h. absurd (omega (arith, i .1)) }
-
-enum-told-4 : tie.Need-enum-told-4 Inv-loop μ-loop
-enum-told-4 c = search needs
-
-add-result-2 : tie.Need-add-result-2 Inv-loop μ-loop
-add-result-2 c = search needs
 
 same-length-2 : tie.Need-same-length-2 Inv-loop μ-loop
 same-length-2 c = L (c .before .before .before) .loop .inv .1
@@ -113,14 +95,8 @@ returns-2 c = let i = L (c .before .before .before) .loop .inv in record { same 
 entry-at-requires : tie.Need-entry-at-requires Inv-loop μ-loop
 entry-at-requires c κs = let d = c .before .before .before in (omega (arith, room d, wide d (met (c .before) .ipr)), omega (arith, St (L d) .pre .1, d .before .loop-test .taken))
 
-mul-t14 : tie.Need-mul-t14 Inv-loop μ-loop
-mul-t14 c = search needs
-
 slice-set-from-held : tie.Need-slice-set-from-held Inv-loop μ-loop
 slice-set-from-held c = let i = L (c .before .before .before .before) .loop .inv in omega (arith, i .0, c .before .if1 .left)
-
-add-n : tie.Need-add-n Inv-loop μ-loop
-add-n c = search needs
 
 add-q-3 : tie.Need-add-q-3 Inv-loop μ-loop
 add-q-3 c = let d = c .before .before .before .before in record { fits = omega (arith, room d, wide d (met (c .before .before) .ipr)) }
@@ -149,28 +125,28 @@ gather-spec =
     μ-loop
     loop-holds
     look-at-requires
-    enum-told
+    (λ c. search needs)
     add-word
     word-requires
     add-q
     loop-less
     loop-again
-    enum-told-2
+    (λ c. search needs)
     add-q-2
     loop-less-2
     loop-again-2
-    enum-told-3
-    add-result
+    (λ c. search needs)
+    (λ c. search needs)
     same-length
     returns
-    enum-told-4
-    add-result-2
+    (λ c. search needs)
+    (λ c. search needs)
     same-length-2
     returns-2
     entry-at-requires
-    mul-t14
+    (λ c. search needs)
     slice-set-from-held
-    add-n
+    (λ c. search needs)
     add-q-3
     loop-less-3
     loop-again-3

@@ -18,11 +18,11 @@ refill-requires c κs =
     let k = c .before .before .before .before .before .pre in
     (scan-narrow (le-refl _) (omega (arith, k .2)) (k .0 .cursor), omega (arith, k .0 .within), omega arith, omega arith)
 
-same-length : tie.Need-same-length
-same-length c = search needs
-
-returns-2 : tie.Need-returns-2
-returns-2 c = search needs
-
 pub ready-spec : {M : Type 1} → statement M
-ready-spec = tie.close (tie.spec returns refill-requires same-length returns-2)
+ready-spec = 
+    tie.close
+    (tie.spec
+    returns
+    refill-requires
+    (λ c. search needs)
+    (λ c. search needs))

@@ -10,8 +10,10 @@ returns c = still-no
 returns-2 : tie.Need-returns-2
 returns-2 c = still-no
 
-returns-3 : tie.Need-returns-3
-returns-3 c = search needs
-
 pub still-spec : {M : Type 1} → statement M
-still-spec = tie.close (tie.spec returns returns-2 returns-3)
+still-spec = 
+    tie.close
+    (tie.spec
+    returns
+    returns-2
+    (λ c. search needs))

@@ -47,21 +47,6 @@ mul-e c = record { fits = omega (arith, c .before .loop .inv .1) }
 slice-copy-out-e : tie.Need-slice-copy-out-e Inv-loop μ-loop
 slice-copy-out-e c = omega (arith, c .before .loop .inv .1)
 
-array-read-wide : tie.Need-array-read-wide Inv-loop μ-loop
-array-read-wide c = search needs
-
-wide-requires : tie.Need-wide-requires Inv-loop μ-loop
-wide-requires c κs = search needs
-
-array-read-wide-2 : tie.Need-array-read-wide-2 Inv-loop μ-loop
-array-read-wide-2 c = search needs
-
-wide-requires-2 : tie.Need-wide-requires-2 Inv-loop μ-loop
-wide-requires-2 c κs = search needs
-
-still-requires : tie.Need-still-requires Inv-loop μ-loop
-still-requires c κs = search needs
-
 mul-t25 : tie.Need-mul-t25 Inv-loop μ-loop
 mul-t25 c = let l = c .before .before .before .before in record { fits = omega (arith, l .loop .inv .1, l .loop .inv .2 .fewer) }
 
@@ -70,9 +55,6 @@ slice-set-from-held c = let l = c .before .before .before .before in omega (arit
 
 add-kept : tie.Need-add-kept Inv-loop μ-loop
 add-kept c = let l = c .before .before .before .before in record { fits = omega (arith, l .loop .inv .1, l .loop .inv .2 .fewer) }
-
-lesser-requires : tie.Need-lesser-requires Inv-loop μ-loop
-lesser-requires c κs = search needs
 
 add-j : tie.Need-add-j Inv-loop μ-loop
 add-j c = let l = A c in record { fits = omega (arith, l .loop .inv .1, l .loop .inv .0) }
@@ -98,15 +80,15 @@ sweep-spec =
     loop-holds
     mul-e
     slice-copy-out-e
-    array-read-wide
-    wide-requires
-    array-read-wide-2
-    wide-requires-2
-    still-requires
+    (λ c. search needs)
+    (λ c κs. search needs)
+    (λ c. search needs)
+    (λ c κs. search needs)
+    (λ c κs. search needs)
     mul-t25
     slice-set-from-held
     add-kept
-    lesser-requires
+    (λ c κs. search needs)
     add-j
     loop-less
     loop-again

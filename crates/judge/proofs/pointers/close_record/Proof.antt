@@ -20,20 +20,11 @@ ended c =
 joined-at : {v u : Pointers} {to x y : ℕ} → x ≡ y → JoinedIs v to x u → JoinedIs v to y u
 joined-at e j = rw e at j
 
-returns : tie.Need-returns
-returns c = search needs
-
-is-part-requires : tie.Need-is-part-requires
-is-part-requires c κs = search needs
-
 returns-2 : tie.Need-returns-2
 returns-2 c =
     let p = part-is (c .before .before .before .before .args .to) (c .before .before .before .before .args .d) (sym (c .before .is-part .ensures) ∙ c .if2 .taken) in
     let b = c .before .before .before .before .pre in
     record { come = omega arith; more = omega (arith, p, b .d-is); part = omega (arith, p, b .d-is) }
-
-shared-slice-read-if3 : tie.Need-shared-slice-read-if3
-shared-slice-read-if3 c = search needs
 
 returns-3 : tie.Need-returns-3
 returns-3 c = record { ended = ended (c .before .before); target = λ o. absurd (c .if3 .taken o); pointer = λ o. absurd (c .if3 .taken o); other = λ _. refl }
@@ -46,16 +37,10 @@ returns-4 c =
     let e = c .before .before .before .before in
     record { ended = ended e; ipr = c .before .before .if3 .left; bad = c .before .is-target .ensures .bad (not-true (c .before .is-target .result) (c .if4 .taken)) }
 
-add-word : tie.Need-add-word
-add-word c = search needs
-
 word-requires : tie.Need-word-requires
 word-requires c κs =
     let e = c .before .before .before .before in
     omega (arith, ended e .come, e .before .before .before .before .pre .ipr (c .before .before .if3 .left))
-
-joined-requires : tie.Need-joined-requires
-joined-requires c κs = search needs
 
 returns-5 : tie.Need-returns-5
 returns-5 c =
@@ -72,14 +57,14 @@ pub close-record-spec : {M : Type 1} → statement M
 close-record-spec =
     tie.close
     (tie.spec
-    returns
-    is-part-requires
+    (λ c. search needs)
+    (λ c κs. search needs)
     returns-2
-    shared-slice-read-if3
+    (λ c. search needs)
     returns-3
     is-target-requires
     returns-4
-    add-word
+    (λ c. search needs)
     word-requires
-    joined-requires
+    (λ c κs. search needs)
     returns-5)

@@ -11,9 +11,6 @@ use Rattle.judge.proofs.pointers.follow.Tie as tie
 returns : tie.Need-returns
 returns c = let k = c .before .before .before .pre in record { quiet = λ q b. omega (arith, b .above, b .below); cursor = scan-narrow (le-refl _) (omega (arith, k .1)) (k .0 .cursor); end-is = refl; last-is = refl; rising-is = refl }
 
-pointer-requires : tie.Need-pointer-requires
-pointer-requires c κs = search needs
-
 returns-2 : tie.Need-returns-2
 returns-2 c =
     let k = c .before .before .before .before .before .pre in
@@ -42,4 +39,10 @@ returns-3 c =
 pub follow-spec : {M : Type 1} → statement M
 follow-spec =
     tie.close
-    (tie.spec returns pointer-requires returns-2 add-word word-requires returns-3)
+    (tie.spec
+    returns
+    (λ c κs. search needs)
+    returns-2
+    add-word
+    word-requires
+    returns-3)

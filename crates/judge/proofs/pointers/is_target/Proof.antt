@@ -8,35 +8,14 @@ use Rattle.judge.proofs.RankLaws.{clash}
 use Rattle.judge.proofs.pointers.is_target.Statement.{statement}
 use Rattle.judge.proofs.pointers.is_target.Tie as tie
 
-add-if1 : tie.Need-add-if1
-add-if1 c = search needs
-
-shared-slice-read-if1 : tie.Need-shared-slice-read-if1
-shared-slice-read-if1 c = search needs
-
 returns : tie.Need-returns
 returns c = record { good = λ e. clash e; bad = λ _ t. omega (arith, t .four) }
-
-add-if2 : tie.Need-add-if2
-add-if2 c = search needs
-
-shared-slice-read-if2 : tie.Need-shared-slice-read-if2
-shared-slice-read-if2 c = search needs
 
 returns-2 : tie.Need-returns-2
 returns-2 c = record { good = λ e. clash e; bad = λ _ t. omega (arith, t .eight) }
 
-add-word : tie.Need-add-word
-add-word c = search needs
-
-word-requires : tie.Need-word-requires
-word-requires c κs = search needs
-
 returns-3 : tie.Need-returns-3
 returns-3 c = record { good = λ e. clash e; bad = λ _ t. omega (arith, t .past, c .before .word .ensures) }
-
-add-result : tie.Need-add-result
-add-result c = search needs
 
 returns-4 : tie.Need-returns-4
 returns-4 c =
@@ -52,14 +31,14 @@ pub is-target-spec : {M : Type 1} → statement M
 is-target-spec =
     tie.close
     (tie.spec
-    add-if1
-    shared-slice-read-if1
+    (λ c. search needs)
+    (λ c. search needs)
     returns
-    add-if2
-    shared-slice-read-if2
+    (λ c. search needs)
+    (λ c. search needs)
     returns-2
-    add-word
-    word-requires
+    (λ c. search needs)
+    (λ c κs. search needs)
     returns-3
-    add-result
+    (λ c. search needs)
     returns-4)

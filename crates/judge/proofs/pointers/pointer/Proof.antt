@@ -39,23 +39,14 @@ loop-holds c = scan-narrow (le-refl _) (le-refl _) (c .before .pre .cursor)
 look-at-requires : tie.Need-look-at-requires Inv-loop μ-loop
 look-at-requires c κs = looking (scan c) (c .loop-test .taken)
 
-enum-told : tie.Need-enum-told Inv-loop μ-loop
-enum-told c = search needs
-
 returns : tie.Need-returns Inv-loop μ-loop
 returns c = let d = c .before .before in scan-found (scan (d .before)) (d .before .loop-test .taken) (told d K.Found (c .enum-told .given .1))
-
-enum-told-2 : tie.Need-enum-told-2 Inv-loop μ-loop
-enum-told-2 c = search needs
 
 returns-2 : tie.Need-returns-2 Inv-loop μ-loop
 returns-2 c =
     let d = c .before .before in
     let b = told d K.Stop (c .enum-told2 .given .1) in
     scan-stop (scan (d .before)) (St (d .before) .pre .order (b .rises)) (d .before .loop-test .taken) (b .ipr) (b .over)
-
-enum-told-3 : tie.Need-enum-told-3 Inv-loop μ-loop
-enum-told-3 c = search needs
 
 -- a pointer that is not looked for has 27 bytes
 missed : (c : tie.After-enum-told3 Inv-loop μ-loop) → Missed (now (St (c .before .before .before) .args .s)) (q (c .before .before .before)) (St (c .before .before .before) .args .lo) (St (c .before .before .before) .args .hi) (St (c .before .before .before) .args .kind)
@@ -72,9 +63,6 @@ loop-less c = less (c .before .before .before .loop-test .taken) (omega arith)
 
 loop-again : tie.Need-loop-again Inv-loop μ-loop
 loop-again c = let d = c .before .before .before in scan-pass (scan d) (d .loop-test .taken) (missed c .not-met) 27 (wide c)
-
-enum-told-4 : tie.Need-enum-told-4 Inv-loop μ-loop
-enum-told-4 c = search needs
 
 room : (c : tie.After-enum-told4 Inv-loop μ-loop) → (q (c .before .before .before) + sizeAt (now (St (c .before .before .before) .args .s)) (q (c .before .before .before)) ≤ St (c .before .before .before) .args .end) × (20 ≤ sizeAt (now (St (c .before .before .before) .args .s)) (q (c .before .before .before))) × (St (c .before .before .before) .args .end ≤ length (now (St (c .before .before .before) .args .s)))
 room c = let d = c .before .before .before in scan-room (scan d) (d .loop-test .taken)
@@ -107,15 +95,15 @@ pointer-spec =
     μ-loop
     loop-holds
     look-at-requires
-    enum-told
+    (λ c. search needs)
     returns
-    enum-told-2
+    (λ c. search needs)
     returns-2
-    enum-told-3
+    (λ c. search needs)
     add-q
     loop-less
     loop-again
-    enum-told-4
+    (λ c. search needs)
     add-word
     word-requires
     add-q-2

@@ -10,20 +10,8 @@ use Rattle.judge.proofs.pointers.settle.Tie as tie
 returns : tie.Need-returns
 returns c = clear-still (c .before .before .before .pre) (c .if1 .taken)
 
-add-pointer : tie.Need-add-pointer
-add-pointer c = search needs
-
 pointer-requires : tie.Need-pointer-requires
 pointer-requires c κs = let k = c .before .before .before .pre in searching k (omega arith) (k .most)
-
-returns-2 : tie.Need-returns-2
-returns-2 c = search needs
-
-add-pointer-2 : tie.Need-add-pointer-2
-add-pointer-2 c = search needs
-
-triple-requires : tie.Need-triple-requires
-triple-requires c κs = search needs
 
 pointer-requires-2 : tie.Need-pointer-requires-2
 pointer-requires-2 c κs = let k = c .before .before .before .before .before .before .pre in searching k (le-refl _) (omega (arith, k .least, k .most))
@@ -51,11 +39,11 @@ settle-spec =
     tie.close
     (tie.spec
     returns
-    add-pointer
+    (λ c. search needs)
     pointer-requires
-    returns-2
-    add-pointer-2
-    triple-requires
+    (λ c. search needs)
+    (λ c. search needs)
+    (λ c κs. search needs)
     pointer-requires-2
     returns-3
     follow-requires

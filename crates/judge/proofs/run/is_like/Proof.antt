@@ -8,23 +8,11 @@ use borrow.Author.Needs.{needs}
 use Rattle.judge.proofs.run.is_like.Statement.{statement}
 use Rattle.judge.proofs.run.is_like.Tie as tie
 
-add-word : tie.Need-add-word
-add-word c = search needs
-
-word-requires : tie.Need-word-requires
-word-requires c κs = search needs
-
 returns : tie.Need-returns
 returns c = λ e. clash e
 
-shared-slice-read-if2 : tie.Need-shared-slice-read-if2
-shared-slice-read-if2 c = search needs
-
 returns-2 : tie.Need-returns-2
 returns-2 c = λ e. clash e
-
-shared-slice-read-may-follow : tie.Need-shared-slice-read-may-follow
-shared-slice-read-may-follow c = search needs
 
 may-follow-requires : tie.Need-may-follow-requires
 may-follow-requires c κs =
@@ -35,20 +23,8 @@ may-follow-requires c κs =
 returns-3 : tie.Need-returns-3
 returns-3 c = λ e. clash e
 
-add-is-group : tie.Need-add-is-group
-add-is-group c = search needs
-
-shared-slice-read-is-group : tie.Need-shared-slice-read-is-group
-shared-slice-read-is-group c = search needs
-
-is-group-requires : tie.Need-is-group-requires
-is-group-requires c κs = search needs
-
 returns-4 : tie.Need-returns-4
 returns-4 c = λ e. clash e
-
-surely-stand-requires : tie.Need-surely-stand-requires
-surely-stand-requires c κs = search needs
 
 returns-5 : tie.Need-returns-5
 returns-5 c = λ e ruled.
@@ -72,17 +48,17 @@ pub is-like-spec : {M : Type 1} → statement M
 is-like-spec =
     tie.close
     (tie.spec
-    add-word
-    word-requires
+    (λ c. search needs)
+    (λ c κs. search needs)
     returns
-    shared-slice-read-if2
+    (λ c. search needs)
     returns-2
-    shared-slice-read-may-follow
+    (λ c. search needs)
     may-follow-requires
     returns-3
-    add-is-group
-    shared-slice-read-is-group
-    is-group-requires
+    (λ c. search needs)
+    (λ c. search needs)
+    (λ c κs. search needs)
     returns-4
-    surely-stand-requires
+    (λ c κs. search needs)
     returns-5)

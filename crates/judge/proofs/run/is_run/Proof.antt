@@ -14,11 +14,15 @@ returns-2 c = λ e. clash e
 returns-3 : tie.Need-returns-3
 returns-3 c = λ e. clash e
 
-is-class-requires : tie.Need-is-class-requires
-is-class-requires c κs = search needs
-
 returns-4 : tie.Need-returns-4
 returns-4 c = λ e. (record { known = sym (c .is-class .ensures) ∙ e; other = c .before .before .before .if1 .left; least = c .before .before .if2 .left }, c .before .if3 .left)
 
 pub is-run-spec : {M : Type 1} → statement M
-is-run-spec = tie.close (tie.spec returns returns-2 returns-3 is-class-requires returns-4)
+is-run-spec = 
+    tie.close
+    (tie.spec
+    returns
+    returns-2
+    returns-3
+    (λ c κs. search needs)
+    returns-4)

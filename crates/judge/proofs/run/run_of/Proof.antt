@@ -25,20 +25,11 @@ abbrev μ-loop : tie.MeasureT-loop
 liked : (c : tie.Else1 Inv-loop μ-loop) → Liking (c .before .before .before .args .class) (c .before .before .before .args .size) × (20 ≤ c .before .before .before .args .d)
 liked c = c .before .is-run .ensures (not-false (c .before .is-run .result) (c .if1 .left))
 
-is-run-requires : tie.Need-is-run-requires Inv-loop μ-loop
-is-run-requires c κs = search needs
-
 returns : tie.Need-returns Inv-loop μ-loop
 returns c = λ _. none
 
-lesser-requires : tie.Need-lesser-requires Inv-loop μ-loop
-lesser-requires c κs = search needs
-
 sub-lesser : tie.Need-sub-lesser Inv-loop μ-loop
 sub-lesser c = omega (arith, liked (c .before) .1)
-
-lesser-requires-2 : tie.Need-lesser-requires-2 Inv-loop μ-loop
-lesser-requires-2 c κs = search needs
 
 returns-2 : tie.Need-returns-2 Inv-loop μ-loop
 returns-2 c = λ _. none
@@ -50,19 +41,10 @@ loop-holds c =
     let k = liked (c .before .before .before) in
     (c .if2 .left, record { come = omega (arith, m .0, l .1); due-after = omega (arith, m .0, l .0); left = omega (arith, m .1, k .1) }, k .0, λ _. none)
 
-sub-if3 : tie.Need-sub-if3 Inv-loop μ-loop
-sub-if3 c = search needs
-
-returns-3 : tie.Need-returns-3 Inv-loop μ-loop
-returns-3 c = search needs
-
 is-like-requires : tie.Need-is-like-requires Inv-loop μ-loop
 is-like-requires c κs =
     let i = c .before .before .loop .inv in
     (i .2, omega (arith, c .if3 .left, i .0, i .1 .come, i .2 .least))
-
-returns-4 : tie.Need-returns-4 Inv-loop μ-loop
-returns-4 c = search needs
 
 add-count : tie.Need-add-count Inv-loop μ-loop
 add-count c = let n = c .before .before .before in record { fits = omega (arith, n .loop-test .taken, n .before .before .before .before .before .before .before .before .fits .most) }
@@ -84,28 +66,25 @@ loop-again c =
       λ r. more (i .3 r) (n .loop-test .taken) (omega (arith, e .if3 .left, i .0, i .1 .due-after)) (omega (arith, e .if3 .left, i .0, i .1 .left)) (omega (arith, e .if3 .left, i .0, i .1 .come)) (c .before .is-like .ensures (not-false (c .before .is-like .result) (c .if4 .left)) r),
     )
 
-returns-5 : tie.Need-returns-5 Inv-loop μ-loop
-returns-5 c = search needs
-
 pub run-of-spec : {M : Type 1} → statement M
 run-of-spec =
     tie.close
     (tie.spec
     Inv-loop
     μ-loop
-    is-run-requires
+    (λ c κs. search needs)
     returns
-    lesser-requires
+    (λ c κs. search needs)
     sub-lesser
-    lesser-requires-2
+    (λ c κs. search needs)
     returns-2
     loop-holds
-    sub-if3
-    returns-3
+    (λ c. search needs)
+    (λ c. search needs)
     is-like-requires
-    returns-4
+    (λ c. search needs)
     add-count
     add-end
     loop-less
     loop-again
-    returns-5)
+    (λ c. search needs))

@@ -9,12 +9,6 @@ use Rattle.judge.proofs.StretchLaws.{joined}
 use Rattle.judge.proofs.stretch.grown.Statement.{statement}
 use Rattle.judge.proofs.stretch.grown.Tie as tie
 
-returns : tie.Need-returns
-returns c = search needs
-
-add-t7 : tie.Need-add-t7
-add-t7 c = search needs
-
 goes-on : {a : List ℕ} {z z′ i j k k′ : ℕ} → z′ ≡ z → k′ ≡ k → Even a z′ i k′ → Even a z k j → Even a z i j
 goes-on e f m n = joined (rw (e, f) at m) n
 
@@ -22,4 +16,9 @@ returns-2 : tie.Need-returns-2
 returns-2 c = record { even = λ a m e n. goes-on (c .before .if1 .left) e m n; end-is = refl; counted = omega arith }
 
 pub grown-spec : {M : Type 1} → statement M
-grown-spec = tie.close (tie.spec returns add-t7 returns-2)
+grown-spec = 
+    tie.close
+    (tie.spec
+    (λ c. search needs)
+    (λ c. search needs)
+    returns-2)

@@ -11,4 +11,8 @@ returns-2 : tie.Need-returns-2
 returns-2 c = inl refl
 
 pub longer-spec : {M : Type 1} → statement M
-longer-spec = tie.close (tie.spec returns returns-2)
+longer-spec = 
+    tie.close
+    (tie.spec
+    returns
+    returns-2)

@@ -6,12 +6,6 @@ use borrow.Author.Needs.{needs}
 use Rattle.judge.proofs.times.is_sure.Statement.{statement}
 use Rattle.judge.proofs.times.is_sure.Tie as tie
 
-cast-wrapping-add-u32 : tie.Need-cast-wrapping-add-u32
-cast-wrapping-add-u32 c = search needs
-
-wrapping-add-u32-requires : tie.Need-wrapping-add-u32-requires
-wrapping-add-u32-requires c κs = search needs
-
 returns : tie.Need-returns
 returns c = λ e. clash e
 
@@ -30,4 +24,9 @@ returns-3 c = λ e.
 pub is-sure-spec : {M : Type 1} → statement M
 is-sure-spec =
     tie.close
-    (tie.spec cast-wrapping-add-u32 wrapping-add-u32-requires returns returns-2 returns-3)
+    (tie.spec
+    (λ c. search needs)
+    (λ c κs. search needs)
+    returns
+    returns-2
+    returns-3)

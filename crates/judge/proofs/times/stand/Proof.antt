@@ -6,17 +6,17 @@ use borrow.Author.Needs.{needs}
 use Rattle.judge.proofs.times.stand.Statement.{statement}
 use Rattle.judge.proofs.times.stand.Tie as tie
 
-surely-stand-requires : tie.Need-surely-stand-requires
-surely-stand-requires c κs = search needs
-
 returns : tie.Need-returns
 returns c = sym (c .before .surely-stand .ensures (c .if1 .taken))
-
-times-stand-requires : tie.Need-times-stand-requires
-times-stand-requires c κs = search needs
 
 returns-2 : tie.Need-returns-2
 returns-2 c = let s = c .before .before .before .before in stands (now (s .args .s)) (s .args .at) (c .times-stand .result) (s .pre) (c .times-stand .ensures)
 
 pub stand-spec : {M : Type 1} → statement M
-stand-spec = tie.close (tie.spec surely-stand-requires returns times-stand-requires returns-2)
+stand-spec = 
+    tie.close
+    (tie.spec
+    (λ c κs. search needs)
+    returns
+    (λ c κs. search needs)
+    returns-2)

@@ -11,56 +11,11 @@ use borrow.Author.Needs.{needs}
 use Rattle.judge.proofs.times.surely_stand.Statement.{statement}
 use Rattle.judge.proofs.times.surely_stand.Tie as tie
 
-add-pair : tie.Need-add-pair
-add-pair c = search needs
-
-pair-requires : tie.Need-pair-requires
-pair-requires c κs = search needs
-
-add-word : tie.Need-add-word
-add-word c = search needs
-
-word-requires : tie.Need-word-requires
-word-requires c κs = search needs
-
-is-sure-requires : tie.Need-is-sure-requires
-is-sure-requires c κs = search needs
-
 returns : tie.Need-returns
 returns c = λ e. clash e
 
-add-pair-2 : tie.Need-add-pair-2
-add-pair-2 c = search needs
-
-pair-requires-2 : tie.Need-pair-requires-2
-pair-requires-2 c κs = search needs
-
-add-word-2 : tie.Need-add-word-2
-add-word-2 c = search needs
-
-word-requires-2 : tie.Need-word-requires-2
-word-requires-2 c κs = search needs
-
-is-sure-requires-2 : tie.Need-is-sure-requires-2
-is-sure-requires-2 c κs = search needs
-
 returns-2 : tie.Need-returns-2
 returns-2 c = λ e. clash e
-
-mul-in-line : tie.Need-mul-in-line
-mul-in-line c = search needs
-
-add-in-line : tie.Need-add-in-line
-add-in-line c = search needs
-
-mul-in-line-2 : tie.Need-mul-in-line-2
-mul-in-line-2 c = search needs
-
-add-in-line-2 : tie.Need-add-in-line-2
-add-in-line-2 c = search needs
-
-in-line-requires : tie.Need-in-line-requires
-in-line-requires c κs = search needs
 
 returns-3 : tie.Need-returns-3
 returns-3 c = λ e.
@@ -80,21 +35,21 @@ pub surely-stand-spec : {M : Type 1} → statement M
 surely-stand-spec =
     tie.close
     (tie.spec
-    add-pair
-    pair-requires
-    add-word
-    word-requires
-    is-sure-requires
+    (λ c. search needs)
+    (λ c κs. search needs)
+    (λ c. search needs)
+    (λ c κs. search needs)
+    (λ c κs. search needs)
     returns
-    add-pair-2
-    pair-requires-2
-    add-word-2
-    word-requires-2
-    is-sure-requires-2
+    (λ c. search needs)
+    (λ c κs. search needs)
+    (λ c. search needs)
+    (λ c κs. search needs)
+    (λ c κs. search needs)
     returns-2
-    mul-in-line
-    add-in-line
-    mul-in-line-2
-    add-in-line-2
-    in-line-requires
+    (λ c. search needs)
+    (λ c. search needs)
+    (λ c. search needs)
+    (λ c. search needs)
+    (λ c κs. search needs)
     returns-3)

@@ -20,9 +20,6 @@ is-headed-requires c κs = omega arith
 returns-2 : tie.Need-returns-2
 returns-2 c = refuse-1 (sym (c .before .is-headed .ensures) ∙ not-true (c .before .is-headed .result) (c .if2 .taken)) (omega arith)
 
-times-stand-requires : tie.Need-times-stand-requires
-times-stand-requires c κs = search needs
-
 head-stands : (c : tie.After-times-stand) → headed (now (c .before .before .before .before .before .args .s)) ≡ true
 head-stands c = let h = c .before .before in sym (h .is-headed .ensures) ∙ not-false (h .is-headed .result) (c .before .if2 .left)
 
@@ -39,4 +36,13 @@ returns-4 c =
     c .walk .ensures (begin (head-stands t) (sym (stands _ 0 (t .times-stand .result) (omega arith) (t .times-stand .ensures)) ∙ not-false (t .times-stand .result) (e .if3 .left)))
 
 pub from-first-spec : {M : Type 1} → statement M
-from-first-spec = tie.close (tie.spec returns is-headed-requires returns-2 times-stand-requires returns-3 walk-requires returns-4)
+from-first-spec = 
+    tie.close
+    (tie.spec
+    returns
+    is-headed-requires
+    returns-2
+    (λ c κs. search needs)
+    returns-3
+    walk-requires
+    returns-4)

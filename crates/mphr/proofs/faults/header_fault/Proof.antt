@@ -12,15 +12,6 @@ use Rattle.mphr.proofs.faults.header_fault.Tie as tie
 told : (c : tie.After-lines-from) (r : Reached) → c .lines-from .result ≡ r → ReachedIs (now (c .before .before .args .s)) r
 told c r e = subst (ReachedIs (now (c .before .before .args .s))) e (c .lines-from .ensures (λ l. absurd (omega arith)))
 
-lines-from-requires : tie.Need-lines-from-requires
-lines-from-requires c κs = search needs
-
-enum-known-r : tie.Need-enum-known-r
-enum-known-r c = search needs
-
-enum-told : tie.Need-enum-told
-enum-told c = search needs
-
 returns : tie.Need-returns
 returns c = let g = c .before .r .given in told (c .before .before .before) (R.Refused (g .0 .0)) (g .1)
 
@@ -28,4 +19,11 @@ returns-2 : tie.Need-returns-2
 returns-2 c = let g = c .enum-told .given in told (c .before .before) (R.Line (g .0 .0) (g .0 .1 .0)) (g .1) .0
 
 pub header-fault-spec : {M : Type 1} → statement M
-header-fault-spec = tie.close (tie.spec lines-from-requires enum-known-r enum-told returns returns-2)
+header-fault-spec = 
+    tie.close
+    (tie.spec
+    (λ c κs. search needs)
+    (λ c. search needs)
+    (λ c. search needs)
+    returns
+    returns-2)

@@ -22,41 +22,11 @@ low-t c k = c .before .before .shared-slice-known2 .given k .fits
 same : (c : tie.Else1) → eight (now (St (c .before) .args .s)) (St (c .before) .args .i) ≡ eight (now (St (c .before) .args .t)) (St (c .before) .args .j)
 same c = sym (c .before .before .eight .ensures) ∙ c .if1 .left ∙ c .before .eight2 .ensures
 
-eight-requires : tie.Need-eight-requires
-eight-requires c κs = search needs
-
-eight-requires-2 : tie.Need-eight-requires-2
-eight-requires-2 c κs = search needs
-
 returns : tie.Need-returns
 returns c = let e = c .before in eight-no (now (St e .args .s)) (now (St e .args .t)) (St e .args .i) (St e .args .j) (low e) (low-t e) (λ q. c .if1 .taken (e .before .eight .ensures ∙ q ∙ sym (e .eight2 .ensures)))
 
-add-if2 : tie.Need-add-if2
-add-if2 c = search needs
-
-shared-slice-read-if2 : tie.Need-shared-slice-read-if2
-shared-slice-read-if2 c = search needs
-
-add-if2-2 : tie.Need-add-if2-2
-add-if2-2 c = search needs
-
-shared-slice-read-if2-2 : tie.Need-shared-slice-read-if2-2
-shared-slice-read-if2-2 c = search needs
-
 returns-2 : tie.Need-returns-2
 returns-2 c = let e = c .before .before .before .before in byte-no (now (St e .args .s)) (now (St e .args .t)) (St e .args .i) (St e .args .j) (low e) (low-t e) 8 (omega arith) (c .if2 .taken)
-
-add-result : tie.Need-add-result
-add-result c = search needs
-
-shared-slice-read-result : tie.Need-shared-slice-read-result
-shared-slice-read-result c = search needs
-
-add-result-2 : tie.Need-add-result-2
-add-result-2 c = search needs
-
-shared-slice-read-result-2 : tie.Need-shared-slice-read-result-2
-shared-slice-read-result-2 c = search needs
 
 returns-3 : tie.Need-returns-3
 returns-3 c = let f = c .before .before in let d = f .before .before .before in let e = d .before in last (now (St e .args .s)) (now (St e .args .t)) (St e .args .i) (St e .args .j) (low e) (low-t e) (same d) (f .if2 .left)
@@ -65,16 +35,16 @@ pub is-alike-spec : {M : Type 1} → statement M
 is-alike-spec =
     tie.close
     (tie.spec
-    eight-requires
-    eight-requires-2
+    (λ c κs. search needs)
+    (λ c κs. search needs)
     returns
-    add-if2
-    shared-slice-read-if2
-    add-if2-2
-    shared-slice-read-if2-2
+    (λ c. search needs)
+    (λ c. search needs)
+    (λ c. search needs)
+    (λ c. search needs)
     returns-2
-    add-result
-    shared-slice-read-result
-    add-result-2
-    shared-slice-read-result-2
+    (λ c. search needs)
+    (λ c. search needs)
+    (λ c. search needs)
+    (λ c. search needs)
     returns-3)

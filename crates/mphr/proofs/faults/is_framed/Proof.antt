@@ -6,38 +6,14 @@ use borrow.Author.Needs.{needs}
 use Rattle.mphr.proofs.faults.is_framed.Statement.{statement}
 use Rattle.mphr.proofs.faults.is_framed.Tie as tie
 
-is-named-requires : tie.Need-is-named-requires
-is-named-requires c κs = search needs
-
 returns : tie.Need-returns
 returns c = frame-name (c .before .before .before .before .args .s .now) (c .before .before .before .before .args .k) (c .before .before .before .before .args .at) (c .before .before .before .before .args .w) (c .before .before .before .before .pre .1) (c .before .before .before .before .pre .2) (sym (c .before .is-named .ensures) ∙ not-true (c .before .is-named .result) (c .if1 .taken))
-
-add-if2 : tie.Need-add-if2
-add-if2 c = search needs
-
-shared-slice-read-if2 : tie.Need-shared-slice-read-if2
-shared-slice-read-if2 c = search needs
 
 returns-2 : tie.Need-returns-2
 returns-2 c = frame-equals (c .before .before .before .before .before .before .args .s .now) (c .before .before .before .before .before .before .args .k) (c .before .before .before .before .before .before .args .at) (c .before .before .before .before .before .before .args .w) (c .before .before .before .before .before .before .pre .1) (c .before .before .before .before .before .before .pre .2) (sym (c .before .before .before .is-named .ensures) ∙ not-false (c .before .before .before .is-named .result) (c .before .before .if1 .left)) (c .if2 .taken)
 
-add-if3 : tie.Need-add-if3
-add-if3 c = search needs
-
-shared-slice-read-if3 : tie.Need-shared-slice-read-if3
-shared-slice-read-if3 c = search needs
-
 returns-3 : tie.Need-returns-3
 returns-3 c = frame-space (c .before .before .before .before .before .before .before .before .args .s .now) (c .before .before .before .before .before .before .before .before .args .k) (c .before .before .before .before .before .before .before .before .args .at) (c .before .before .before .before .before .before .before .before .args .w) (c .before .before .before .before .before .before .before .before .pre .1) (c .before .before .before .before .before .before .before .before .pre .2) (sym (c .before .before .before .before .before .is-named .ensures) ∙ not-false (c .before .before .before .before .before .is-named .result) (c .before .before .before .before .if1 .left)) (c .before .before .if2 .left) (c .if3 .taken)
-
-add-result : tie.Need-add-result
-add-result c = search needs
-
-add-result-2 : tie.Need-add-result-2
-add-result-2 c = search needs
-
-shared-slice-read-result : tie.Need-shared-slice-read-result
-shared-slice-read-result c = search needs
 
 returns-4 : tie.Need-returns-4
 returns-4 c = frame-feed (c .before .before .before .before .before .before .before .before .before .args .s .now) (c .before .before .before .before .before .before .before .before .before .args .k) (c .before .before .before .before .before .before .before .before .before .args .at) (c .before .before .before .before .before .before .before .before .before .args .w) (c .before .before .before .before .before .before .before .before .before .pre .1) (c .before .before .before .before .before .before .before .before .before .pre .2) (sym (c .before .before .before .before .before .before .is-named .ensures) ∙ not-false (c .before .before .before .before .before .before .is-named .result) (c .before .before .before .before .before .if1 .left)) (c .before .before .before .if2 .left) (c .before .if3 .left)
@@ -46,15 +22,15 @@ pub is-framed-spec : {M : Type 1} → statement M
 is-framed-spec =
     tie.close
     (tie.spec
-    is-named-requires
+    (λ c κs. search needs)
     returns
-    add-if2
-    shared-slice-read-if2
+    (λ c. search needs)
+    (λ c. search needs)
     returns-2
-    add-if3
-    shared-slice-read-if3
+    (λ c. search needs)
+    (λ c. search needs)
     returns-3
-    add-result
-    add-result-2
-    shared-slice-read-result
+    (λ c. search needs)
+    (λ c. search needs)
+    (λ c. search needs)
     returns-4)

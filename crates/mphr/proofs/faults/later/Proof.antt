@@ -11,9 +11,6 @@ use mathlib.Core.Path.{_≡_, refl, sym, _∙_}
 use Rattle.mphr.proofs.faults.later.Statement.{statement}
 use Rattle.mphr.proofs.faults.later.Tie as tie
 
-count-at-requires : tie.Need-count-at-requires
-count-at-requires c κs = search needs
-
 -- D
 size-is : (c : tie.After-count-at) → let s = c .before .before .before .args in Numbered (now (s .s)) (s .k) → c .count-at .result ≡ declared (now (s .s))
 size-is c q =
@@ -51,9 +48,6 @@ returns-5 c = let k = c .before .before .before .before .if4 .taken in λ q. rec
 total-of-requires-3 : tie.Need-total-of-requires-3
 total-of-requires-3 c κs = omega arith
 
-sum-of-requires : tie.Need-sum-of-requires
-sum-of-requires c κs = search needs
-
 returns-6 : tie.Need-returns-6
 returns-6 c = let k = c .before .before .before .before .before .before .before .if4 .taken in λ q. record { four = λ e. absurd (omega arith); five = λ _. (k, λ s. c .if7 .taken (c .before .before .total-of3 .ensures .0 (q .1 k) ∙ s .all ∙ sym (c .before .sum-of .ensures (q .1 k)))); size = λ _ e. absurd (omega arith); totals = λ n. absurd (n refl) }
 
@@ -67,7 +61,7 @@ pub later-spec : {M : Type 1} → statement M
 later-spec =
     tie.close
     (tie.spec
-    count-at-requires
+    (λ c κs. search needs)
     returns
     returns-2
     returns-3
@@ -76,7 +70,7 @@ later-spec =
     total-of-requires-2
     returns-5
     total-of-requires-3
-    sum-of-requires
+    (λ c κs. search needs)
     returns-6
     returns-7
     returns-8)

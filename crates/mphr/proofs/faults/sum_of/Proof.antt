@@ -1,6 +1,5 @@
 -- `mphr::faults::sum_of` meets its contract: after j turns the loop has the sum of the totals 1 to j, where their fields are numbers. Assumes nothing.
 use native.Mathlib.Omega.{arith}
-use borrow.Author.Needs.{needs}
 use native.Mathlib.Numerals.{add-one}
 use mathlib.Core.Path.{_≡_, refl, ap, _∙_}
 use Prim.Native.Nat.{ℕ, _+_, _*_, _-_, _≤_}

@@ -9,15 +9,6 @@ use borrow.Author.Needs.{needs}
 use Rattle.mphr.proofs.faults.total_of.Statement.{statement}
 use Rattle.mphr.proofs.faults.total_of.Tie as tie
 
-mul-count-at : tie.Need-mul-count-at
-mul-count-at c = search needs
-
-add-count-at : tie.Need-add-count-at
-add-count-at c = search needs
-
-count-at-requires : tie.Need-count-at-requires
-count-at-requires c κs = search needs
-
 returns : tie.Need-returns
 returns c =
     let s = c .before .before in
@@ -26,4 +17,10 @@ returns c =
     (λ y. c .count-at .ensures ∙ count-is a i 6 (y .counts (s .args .j) (omega arith)) (omega arith) (omega (arith, y .come)) ∙ sym (total-is a (s .args .j) (omega arith)), omega (arith, c .count-at .ensures, count-most a i))
 
 pub total-of-spec : {M : Type 1} → statement M
-total-of-spec = tie.close (tie.spec mul-count-at add-count-at count-at-requires returns)
+total-of-spec = 
+    tie.close
+    (tie.spec
+    (λ c. search needs)
+    (λ c. search needs)
+    (λ c κs. search needs)
+    returns)

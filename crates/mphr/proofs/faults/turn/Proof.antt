@@ -10,56 +10,17 @@ use borrow.Author.Needs.{needs}
 use Rattle.mphr.proofs.faults.turn.Statement.{statement}
 use Rattle.mphr.proofs.faults.turn.Tie as tie
 
-width-at-requires : tie.Need-width-at-requires
-width-at-requires c κs = search needs
-
-add-to : tie.Need-add-to
-add-to c = search needs
-
-add-to-2 : tie.Need-add-to-2
-add-to-2 c = search needs
-
 returns : tie.Need-returns
 returns c = say-wait (c .before .before .before .before .pre .0) (c .before .width-at .ensures .0) (c .if1 .taken)
-
-is-framed-requires : tie.Need-is-framed-requires
-is-framed-requires c κs = search needs
-
-refused-requires : tie.Need-refused-requires
-refused-requires c κs = search needs
 
 returns-2 : tie.Need-returns-2
 returns-2 c = subst (TurnedIs (now (c .before .before .before .before .before .before .before .args .s)) (c .before .before .before .before .before .before .before .args .k)) (sym (c .refused .ensures)) (say-2 (c .before .before .before .before .before .before .before .pre .0) (c .before .before .before .before .width-at .ensures .0) (c .before .before .before .if1 .left) (sym (c .before .before .is-framed .ensures) ∙ not-true (c .before .before .is-framed .result) (c .before .if2 .taken)))
 
-add-is-value : tie.Need-add-is-value
-add-is-value c = search needs
-
-kind-at-requires : tie.Need-kind-at-requires
-kind-at-requires c κs = search needs
-
-is-value-requires : tie.Need-is-value-requires
-is-value-requires c κs = search needs
-
-add-refused : tie.Need-add-refused
-add-refused c = search needs
-
-refused-requires-2 : tie.Need-refused-requires-2
-refused-requires-2 c κs = search needs
-
 returns-3 : tie.Need-returns-3
 returns-3 c = subst (TurnedIs (now (c .before .before .before .before .before .before .before .before .before .before .args .s)) (c .before .before .before .before .before .before .before .before .before .before .args .k)) (sym (c .refused2 .ensures)) (say-3 (c .before .before .before .before .before .before .before .before .before .before .pre .0) (c .before .before .before .before .before .before .before .width-at .ensures .0) (c .before .before .before .before .before .before .if1 .left) (sym (c .before .before .before .before .before .is-framed .ensures) ∙ not-false (c .before .before .before .before .before .is-framed .result) (c .before .before .before .before .if2 .left)) (sym (value-is (now (c .before .before .before .before .before .before .before .before .before .before .args .s)) (c .before .before .before .before .before .before .before .before .before .before .args .k) (c .before .before .before .before .before .before .before .before .before .before .args .at) (c .before .before .before .before .before .before .before .width-at .result) (c .before .before .before .before .before .before .before .before .before .before .pre .0 .at-is) (c .before .before .before .before .before .before .before .width-at .ensures .0) (c .before .before .before .kind-at .result) (c .before .before .is-value .result) (c .before .before .before .kind-at .ensures) (c .before .before .before .before .before .before .if1 .left) (c .before .before .is-value .ensures)) ∙ not-true (c .before .before .is-value .result) (c .before .if3 .taken)))
 
-later-requires : tie.Need-later-requires
-later-requires c κs = search needs
-
-refused-requires-3 : tie.Need-refused-requires-3
-refused-requires-3 c κs = search needs
-
 returns-4 : tie.Need-returns-4
 returns-4 c = subst (TurnedIs (now (c .before .before .before .before .before .before .before .before .before .before .before .before .args .s)) (c .before .before .before .before .before .before .before .before .before .before .before .before .args .k)) (sym (c .refused3 .ensures)) (say-4 (c .before .before .before .before .before .before .before .before .before .before .before .before .pre .0) (c .before .before .before .before .before .before .before .before .before .width-at .ensures .0) (c .before .before .before .before .before .before .before .before .if1 .left) (sym (c .before .before .before .before .before .before .before .is-framed .ensures) ∙ not-false (c .before .before .before .before .before .before .before .is-framed .result) (c .before .before .before .before .before .before .if2 .left)) (sym (value-is (now (c .before .before .before .before .before .before .before .before .before .before .before .before .args .s)) (c .before .before .before .before .before .before .before .before .before .before .before .before .args .k) (c .before .before .before .before .before .before .before .before .before .before .before .before .args .at) (c .before .before .before .before .before .before .before .before .before .width-at .result) (c .before .before .before .before .before .before .before .before .before .before .before .before .pre .0 .at-is) (c .before .before .before .before .before .before .before .before .before .width-at .ensures .0) (c .before .before .before .before .before .kind-at .result) (c .before .before .before .before .is-value .result) (c .before .before .before .before .before .kind-at .ensures) (c .before .before .before .before .before .before .before .before .if1 .left) (c .before .before .before .before .is-value .ensures)) ∙ not-false (c .before .before .before .before .is-value .result) (c .before .before .before .if3 .left)) (c .before .before .later .ensures) (c .before .if4 .taken))
-
-refused-requires-4 : tie.Need-refused-requires-4
-refused-requires-4 c κs = search needs
 
 returns-5 : tie.Need-returns-5
 returns-5 c = subst (TurnedIs (now (c .before .before .before .before .before .before .before .before .before .before .before .before .before .args .s)) (c .before .before .before .before .before .before .before .before .before .before .before .before .before .args .k)) (sym (c .refused4 .ensures)) (say-5 (c .before .before .before .before .before .before .before .before .before .before .before .before .before .pre .0) (c .before .before .before .before .before .before .before .before .before .before .width-at .ensures .0) (c .before .before .before .before .before .before .before .before .before .if1 .left) (sym (c .before .before .before .before .before .before .before .before .is-framed .ensures) ∙ not-false (c .before .before .before .before .before .before .before .before .is-framed .result) (c .before .before .before .before .before .before .before .if2 .left)) (sym (value-is (now (c .before .before .before .before .before .before .before .before .before .before .before .before .before .args .s)) (c .before .before .before .before .before .before .before .before .before .before .before .before .before .args .k) (c .before .before .before .before .before .before .before .before .before .before .before .before .before .args .at) (c .before .before .before .before .before .before .before .before .before .before .width-at .result) (c .before .before .before .before .before .before .before .before .before .before .before .before .before .pre .0 .at-is) (c .before .before .before .before .before .before .before .before .before .before .width-at .ensures .0) (c .before .before .before .before .before .before .kind-at .result) (c .before .before .before .before .before .is-value .result) (c .before .before .before .before .before .before .kind-at .ensures) (c .before .before .before .before .before .before .before .before .before .if1 .left) (c .before .before .before .before .before .is-value .ensures)) ∙ not-false (c .before .before .before .before .before .is-value .result) (c .before .before .before .before .if3 .left)) (c .before .before .before .later .ensures) (c .before .if5 .taken))
@@ -71,22 +32,22 @@ pub turn-spec : {M : Type 1} → statement M
 turn-spec =
     tie.close
     (tie.spec
-    width-at-requires
-    add-to
-    add-to-2
+    (λ c κs. search needs)
+    (λ c. search needs)
+    (λ c. search needs)
     returns
-    is-framed-requires
-    refused-requires
+    (λ c κs. search needs)
+    (λ c κs. search needs)
     returns-2
-    add-is-value
-    kind-at-requires
-    is-value-requires
-    add-refused
-    refused-requires-2
+    (λ c. search needs)
+    (λ c κs. search needs)
+    (λ c κs. search needs)
+    (λ c. search needs)
+    (λ c κs. search needs)
     returns-3
-    later-requires
-    refused-requires-3
+    (λ c κs. search needs)
+    (λ c κs. search needs)
     returns-4
-    refused-requires-4
+    (λ c κs. search needs)
     returns-5
     returns-6)

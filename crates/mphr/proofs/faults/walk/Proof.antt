@@ -31,23 +31,14 @@ loop-holds : tie.Need-loop-holds Inv-loop μ-loop
 unfolding fields rows names widths kinds codes
 loop-holds c = let y = c .before .pre in (omega arith, y .at-is, y .come, λ p. p, refl, refl, refl)
 
-slice-aggregate-turn : tie.Need-slice-aggregate-turn Inv-loop μ-loop
-slice-aggregate-turn c = search needs
-
 turn-requires : tie.Need-turn-requires Inv-loop μ-loop
 turn-requires c κs =
     let t = c .before .before .before in
     let i = t .before .loop .inv in
     (record { line = t .loop-test .taken; at-is = i .1; come = i .2 }, i .4, i .5, i .6)
 
-enum-known-r : tie.Need-enum-known-r Inv-loop μ-loop
-enum-known-r c = search needs
-
 returns : tie.Need-returns Inv-loop μ-loop
 returns c = let t = c .before .before .before in let g = c .before .r .given in λ p. told t (Stop (g .0 .0)) (g .1) (L t .loop .inv .3 p)
-
-enum-known-to : tie.Need-enum-known-to Inv-loop μ-loop
-enum-known-to c = search needs
 
 add-k : tie.Need-add-k Inv-loop μ-loop
 add-k c = omega arith
@@ -73,11 +64,11 @@ walk-spec =
     Inv-loop
     μ-loop
     loop-holds
-    slice-aggregate-turn
+    (λ c. search needs)
     turn-requires
-    enum-known-r
+    (λ c. search needs)
     returns
-    enum-known-to
+    (λ c. search needs)
     add-k
     loop-less
     loop-again

@@ -5,12 +5,13 @@ use borrow.Author.Needs.{needs}
 use Rattle.mphr.proofs.layout.code.Statement.{statement}
 use Rattle.mphr.proofs.layout.code.Tie as tie
 
-array-read-result : tie.Need-array-read-result
-array-read-result c = search needs
-
 returns : tie.Need-returns
 unfolding fields kinds codes
 returns c = code-at (c .args .k)
 
 pub code-spec : {M : Type 1} → statement M
-code-spec = tie.close (tie.spec array-read-result returns)
+code-spec = 
+    tie.close
+    (tie.spec
+    (λ c. search needs)
+    returns)

@@ -17,15 +17,6 @@ placed s t w v d e p q r = rw (p, q, r)
 returns : tie.Need-returns
 returns c = let h : 71 < c .before .args .k = omega arith in simp (lt-leb (c .before .args .k) 71 h)
 
-start-requires : tie.Need-start-requires
-start-requires c κs = search needs
-
-width-requires : tie.Need-width-requires
-width-requires c κs = search needs
-
-kind-requires : tie.Need-kind-requires
-kind-requires c κs = search needs
-
 returns-2 : tie.Need-returns-2
 returns-2 c =
     let k = c .before .before .before .before .args .k in
@@ -34,4 +25,11 @@ returns-2 c =
 
 pub field-place-spec : {M : Type 1} → statement M
 field-place-spec =
-    tie.close (tie.spec returns start-requires width-requires kind-requires returns-2)
+    
+    tie.close
+    (tie.spec
+    returns
+    (λ c κs. search needs)
+    (λ c κs. search needs)
+    (λ c κs. search needs)
+    returns-2)

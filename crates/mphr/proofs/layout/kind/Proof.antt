@@ -9,8 +9,9 @@ kind-at-requires : tie.Need-kind-at-requires
 unfolding fields kinds codes
 kind-at-requires c κs = (search needs, refl)
 
-returns : tie.Need-returns
-returns c = search needs
-
 pub kind-spec : {M : Type 1} → statement M
-kind-spec = tie.close (tie.spec kind-at-requires returns)
+kind-spec = 
+    tie.close
+    (tie.spec
+    kind-at-requires
+    (λ c. search needs))

@@ -9,14 +9,13 @@ use borrow.Author.Needs.{needs}
 use Rattle.mphr.proofs.layout.kind_at.Statement.{statement}
 use Rattle.mphr.proofs.layout.kind_at.Tie as tie
 
-element-copy-out-kind-of : tie.Need-element-copy-out-kind-of
-element-copy-out-kind-of c = search needs
-
-kind-of-requires : tie.Need-kind-of-requires
-kind-of-requires c κs = search needs
-
 returns : tie.Need-returns
 returns c = let s = c .before .before in c .kind-of .ensures ∙ ap (λ (t : List ℕ). kindFrom (getD t (s .args .k) 0)) (s .pre .1) ∙ kind-from (s .args .k)
 
 pub kind-at-spec : {M : Type 1} → statement M
-kind-at-spec = tie.close (tie.spec element-copy-out-kind-of kind-of-requires returns)
+kind-at-spec = 
+    tie.close
+    (tie.spec
+    (λ c. search needs)
+    (λ c κs. search needs)
+    returns)

@@ -26,4 +26,12 @@ returns-6 c =
     rw (ne-eqb n 0 (c .before .before .before .before .if1 .left), ne-eqb n 1 (c .before .before .before .if2 .left), ne-eqb n 2 (c .before .before .if3 .left), ne-eqb n 3 (c .before .if4 .left), ne-eqb n 4 (c .if5 .left))
 
 pub kind-of-spec : {M : Type 1} → statement M
-kind-of-spec = tie.close (tie.spec returns returns-2 returns-3 returns-4 returns-5 returns-6)
+kind-of-spec = 
+    tie.close
+    (tie.spec
+    returns
+    returns-2
+    returns-3
+    returns-4
+    returns-5
+    returns-6)

@@ -5,12 +5,13 @@ use borrow.Author.Needs.{needs}
 use Rattle.mphr.proofs.layout.name_byte.Statement.{statement}
 use Rattle.mphr.proofs.layout.name_byte.Tie as tie
 
-array-read-result : tie.Need-array-read-result
-array-read-result c = search needs
-
 returns : tie.Need-returns
 unfolding fields rows names
 returns c = refl
 
 pub name-byte-spec : {M : Type 1} → statement M
-name-byte-spec = tie.close (tie.spec array-read-result returns)
+name-byte-spec = 
+    tie.close
+    (tie.spec
+    (λ c. search needs)
+    returns)

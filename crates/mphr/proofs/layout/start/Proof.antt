@@ -8,15 +8,14 @@ use Rattle.mphr.proofs.LayoutLaws.{start-at}
 use Rattle.mphr.proofs.layout.start.Statement.{statement}
 use Rattle.mphr.proofs.layout.start.Tie as tie
 
-mul-result : tie.Need-mul-result
-mul-result c = search needs
-
-array-read-result : tie.Need-array-read-result
-array-read-result c = search needs
-
 returns : tie.Need-returns
 unfolding fields widths starts
 returns c = start-at (c .args .k) (c .pre)
 
 pub start-spec : {M : Type 1} → statement M
-start-spec = tie.close (tie.spec mul-result array-read-result returns)
+start-spec = 
+    tie.close
+    (tie.spec
+    (λ c. search needs)
+    (λ c. search needs)
+    returns)

@@ -9,8 +9,9 @@ width-at-requires : tie.Need-width-at-requires
 unfolding fields widths
 width-at-requires c κs = (search needs, refl)
 
-returns : tie.Need-returns
-returns c = search needs
-
 pub width-spec : {M : Type 1} → statement M
-width-spec = tie.close (tie.spec width-at-requires returns)
+width-spec = 
+    tie.close
+    (tie.spec
+    width-at-requires
+    (λ c. search needs))

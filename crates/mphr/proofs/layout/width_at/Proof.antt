@@ -10,12 +10,6 @@ use borrow.Author.Needs.{needs}
 use Rattle.mphr.proofs.layout.width_at.Statement.{statement}
 use Rattle.mphr.proofs.layout.width_at.Tie as tie
 
-element-copy-out-size-of : tie.Need-element-copy-out-size-of
-element-copy-out-size-of c = search needs
-
-size-of-requires : tie.Need-size-of-requires
-size-of-requires c κs = search needs
-
 same : (c : tie.After-size-of) → c .size-of .result ≡ widthOf (c .before .before .args .k)
 unfolding widthOf
 same c = let s = c .before .before in c .size-of .ensures ∙ ap (λ (t : List ℕ). getD t (s .args .k) 0) (s .pre .1)
@@ -24,4 +18,9 @@ returns : tie.Need-returns
 returns c = let s = c .before .before in (same c, omega (arith, same c, width-most (s .args .k) (s .pre .0)))
 
 pub width-at-spec : {M : Type 1} → statement M
-width-at-spec = tie.close (tie.spec element-copy-out-size-of size-of-requires returns)
+width-at-spec = 
+    tie.close
+    (tie.spec
+    (λ c. search needs)
+    (λ c κs. search needs)
+    returns)

@@ -16,12 +16,6 @@ returns c = let a = c .before .before .args in write-unfit (now (a .room)) _ (wi
 width-requires : tie.Need-width-requires
 width-requires c κs = let s = c .before .before in s .pre (not-false (s .args .fits) (c .if1 .left))
 
-add-if2 : tie.Need-add-if2
-add-if2 c = search needs
-
-add-t9 : tie.Need-add-t9
-add-t9 c = search needs
-
 returns-2 : tie.Need-returns-2
 returns-2 c =
     let w = c .before in
@@ -33,12 +27,6 @@ put-frame-requires c κs =
     let l = c .before in
     let s = l .before .before .before .before in
     (s .pre (not-false (s .args .fits) (l .before .before .if1 .left)), l .if2 .left)
-
-add-t7 : tie.Need-add-t7
-add-t7 c = search needs
-
-same-length : tie.Need-same-length
-same-length c = search needs
 
 returns-3 : tie.Need-returns-3
 returns-3 c =
@@ -54,10 +42,10 @@ begin-line-spec =
     (tie.spec
     returns
     width-requires
-    add-if2
-    add-t9
+    (λ c. search needs)
+    (λ c. search needs)
     returns-2
     put-frame-requires
-    add-t7
-    same-length
+    (λ c. search needs)
+    (λ c. search needs)
     returns-3)

@@ -8,18 +8,6 @@ use borrow.Author.Needs.{needs}
 use Rattle.mphr.proofs.lines.count_fits.Statement.{statement}
 use Rattle.mphr.proofs.lines.count_fits.Tie as tie
 
-enum-told : tie.Need-enum-told
-enum-told c = search needs
-
-enum-told-2 : tie.Need-enum-told-2
-enum-told-2 c = search needs
-
-fits-number-requires : tie.Need-fits-number-requires
-fits-number-requires c κs = search needs
-
-returns : tie.Need-returns
-returns c = search needs
-
 returns-2 : tie.Need-returns-2
 returns-2 c =
     let a = c .before .before .before .args in
@@ -27,4 +15,11 @@ returns-2 c =
     c .fits-number .ensures ∙ ap (fitsNumber false (a .w)) t ∙ sym (ap (countFits (a .w)) t)
 
 pub count-fits-spec : {M : Type 1} → statement M
-count-fits-spec = tie.close (tie.spec enum-told enum-told-2 fits-number-requires returns returns-2)
+count-fits-spec = 
+    tie.close
+    (tie.spec
+    (λ c. search needs)
+    (λ c. search needs)
+    (λ c κs. search needs)
+    (λ c. search needs)
+    returns-2)

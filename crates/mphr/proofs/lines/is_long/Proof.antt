@@ -8,11 +8,12 @@ use borrow.Author.Needs.{needs}
 use Rattle.mphr.proofs.lines.is_long.Statement.{statement}
 use Rattle.mphr.proofs.lines.is_long.Tie as tie
 
-code-requires : tie.Need-code-requires
-code-requires c κs = search needs
-
 returns : tie.Need-returns
 returns c = ap (λ (n : ℕ). eqb n 5) (c .code .ensures) ∙ long-by (kindOf (c .before .args .k))
 
 pub is-long-spec : {M : Type 1} → statement M
-is-long-spec = tie.close (tie.spec code-requires returns)
+is-long-spec = 
+    tie.close
+    (tie.spec
+    (λ c κs. search needs)
+    returns)

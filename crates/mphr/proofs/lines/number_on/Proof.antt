@@ -10,15 +10,6 @@ returns : tie.Need-returns
 unfolding numberOn
 returns c = on-none (c .before .args .k) _ (c .if1 .taken)
 
-code-requires : tie.Need-code-requires
-code-requires c κs = search needs
-
-width-requires : tie.Need-width-requires
-width-requires c κs = search needs
-
-fits-number-requires : tie.Need-fits-number-requires
-fits-number-requires c κs = search needs
-
 returns-2 : tie.Need-returns-2
 returns-2 c =
     let w = c .before in
@@ -26,24 +17,12 @@ returns-2 c =
     let a = d .before .before .args in
     c .fits-number .ensures ∙ number-unsigned (a .k) (d .code .result) (w .width .result) (d .before .if1 .left) (d .code .ensures) (w .width .ensures .0) (a .number) (w .before .if2 .taken)
 
-width-requires-2 : tie.Need-width-requires-2
-width-requires-2 c κs = search needs
-
-count-fits-requires : tie.Need-count-fits-requires
-count-fits-requires c κs = search needs
-
 returns-3 : tie.Need-returns-3
 returns-3 c =
     let w = c .before in
     let d = w .before .before .before in
     let a = d .before .before .args in
     c .count-fits .ensures ∙ number-count (a .k) (d .code .result) (w .width2 .result) (d .before .if1 .left) (d .code .ensures) (w .width2 .ensures .0) (a .number) (w .before .if3 .taken)
-
-width-requires-3 : tie.Need-width-requires-3
-width-requires-3 c κs = search needs
-
-fits-number-requires-2 : tie.Need-fits-number-requires-2
-fits-number-requires-2 c κs = search needs
 
 returns-4 : tie.Need-returns-4
 returns-4 c =
@@ -63,14 +42,14 @@ number-on-spec =
     tie.close
     (tie.spec
     returns
-    code-requires
-    width-requires
-    fits-number-requires
+    (λ c κs. search needs)
+    (λ c κs. search needs)
+    (λ c κs. search needs)
     returns-2
-    width-requires-2
-    count-fits-requires
+    (λ c κs. search needs)
+    (λ c κs. search needs)
     returns-3
-    width-requires-3
-    fits-number-requires-2
+    (λ c κs. search needs)
+    (λ c κs. search needs)
     returns-4
     returns-5)

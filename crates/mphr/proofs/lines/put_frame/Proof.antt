@@ -9,23 +9,11 @@ use borrow.Author.Needs.{needs}
 use Rattle.mphr.proofs.lines.put_frame.Statement.{statement}
 use Rattle.mphr.proofs.lines.put_frame.Tie as tie
 
-put-name-requires : tie.Need-put-name-requires
-put-name-requires c κs = search needs
-
-slice-write-room : tie.Need-slice-write-room
-slice-write-room c = search needs
-
 slice-write-room-2 : tie.Need-slice-write-room-2
 slice-write-room-2 c = simp length-set (omega arith)
 
-add-room : tie.Need-add-room
-add-room c = search needs
-
 slice-write-room-3 : tie.Need-slice-write-room-3
 slice-write-room-3 c = simp length-set (omega arith)
-
-same-length : tie.Need-same-length
-same-length c = search needs
 
 returns : tie.Need-returns
 unfolding putFrame
@@ -37,10 +25,10 @@ pub put-frame-spec : {M : Type 1} → statement M
 put-frame-spec =
     tie.close
     (tie.spec
-    put-name-requires
-    slice-write-room
+    (λ c κs. search needs)
+    (λ c. search needs)
     slice-write-room-2
-    add-room
+    (λ c. search needs)
     slice-write-room-3
-    same-length
+    (λ c. search needs)
     returns)

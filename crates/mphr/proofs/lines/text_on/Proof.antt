@@ -11,17 +11,8 @@ returns : tie.Need-returns
 unfolding textOn
 returns c = on-none (c .before .before .args .k) _ (c .if1 .taken)
 
-code-requires : tie.Need-code-requires
-code-requires c κs = search needs
-
 returns-2 : tie.Need-returns-2
 returns-2 c = let e = c .before .before in let a = e .before .before .args in text-no (a .k) (c .before .code .result) (e .if1 .left) (c .before .code .ensures) (now (a .text)) (c .if2 .taken)
-
-width-requires : tie.Need-width-requires
-width-requires c κs = search needs
-
-fits-text-requires : tie.Need-fits-text-requires
-fits-text-requires c κs = search needs
 
 returns-3 : tie.Need-returns-3
 returns-3 c =
@@ -33,4 +24,10 @@ returns-3 c =
 pub text-on-spec : {M : Type 1} → statement M
 text-on-spec =
     tie.close
-    (tie.spec returns code-requires returns-2 width-requires fits-text-requires returns-3)
+    (tie.spec
+    returns
+    (λ c κs. search needs)
+    returns-2
+    (λ c κs. search needs)
+    (λ c κs. search needs)
+    returns-3)

@@ -10,17 +10,8 @@ returns : tie.Need-returns
 unfolding timeOn
 returns c = on-none (c .before .args .k) _ (c .if1 .taken)
 
-code-requires : tie.Need-code-requires
-code-requires c κs = search needs
-
 returns-2 : tie.Need-returns-2
 returns-2 c = let e = c .before .before in let a = e .before .args in time-no (a .k) (c .before .code .result) (e .if1 .left) (c .before .code .ensures) (a .time) (c .if2 .taken)
-
-is-long-requires : tie.Need-is-long-requires
-is-long-requires c κs = search needs
-
-fits-general-requires : tie.Need-fits-general-requires
-fits-general-requires c κs = search needs
 
 returns-3 : tie.Need-returns-3
 returns-3 c =
@@ -32,4 +23,10 @@ returns-3 c =
 pub time-on-spec : {M : Type 1} → statement M
 time-on-spec =
     tie.close
-    (tie.spec returns code-requires returns-2 is-long-requires fits-general-requires returns-3)
+    (tie.spec
+    returns
+    (λ c κs. search needs)
+    returns-2
+    (λ c κs. search needs)
+    (λ c κs. search needs)
+    returns-3)

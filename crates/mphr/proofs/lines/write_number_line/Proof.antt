@@ -24,21 +24,9 @@ fits : (c : tie.After-enum-told) → (c .before .before .before .before .before 
 unfolding numberOn
 fits c = on-both (c .before .before .before .before .before .before .before .before .args .k) _ (begun (line (c .before .before .before .before)) _ (c .enum-told .given .1) .fits)
 
-number-on-requires : tie.Need-number-on-requires
-number-on-requires c κs = search needs
-
 begin-line-requires : tie.Need-begin-line-requires
 unfolding numberOn
 begin-line-requires c κs = λ e. on-both (c .before .before .before .args .k) _ (sym (c .number-on .ensures) ∙ e) .0
-
-enum-told : tie.Need-enum-told
-enum-told c = search needs
-
-enum-told-2 : tie.Need-enum-told-2
-enum-told-2 c = search needs
-
-same-length : tie.Need-same-length
-same-length c = search needs
 
 returns : tie.Need-returns
 returns c = line-refused (line (c .before .before .before .before)) _ (c .enum-told2 .given .1)
@@ -49,17 +37,8 @@ sub-write-number c = omega (arith, begun-room (line (c .before .before .before .
 part-write-number-start : tie.Need-part-write-number-start
 part-write-number-start c = omega (arith, begun-room (line (c .before .before .before .before)) _ (c .enum-told .given .1))
 
-part-write-number-end : tie.Need-part-write-number-end
-part-write-number-end c = search needs
-
 width-requires : tie.Need-width-requires
 width-requires c κs = fits (c .before) .0
-
-write-number-requires : tie.Need-write-number-requires
-write-number-requires c κs = search needs
-
-same-length-2 : tie.Need-same-length-2
-same-length-2 c = search needs
 
 returns-2 : tie.Need-returns-2
 returns-2 c =
@@ -77,16 +56,16 @@ pub write-number-line-spec : {M : Type 1} → statement M
 write-number-line-spec =
     tie.close
     (tie.spec
-    number-on-requires
+    (λ c κs. search needs)
     begin-line-requires
-    enum-told
-    enum-told-2
-    same-length
+    (λ c. search needs)
+    (λ c. search needs)
+    (λ c. search needs)
     returns
     sub-write-number
     part-write-number-start
-    part-write-number-end
+    (λ c. search needs)
     width-requires
-    write-number-requires
-    same-length-2
+    (λ c κs. search needs)
+    (λ c. search needs)
     returns-2)

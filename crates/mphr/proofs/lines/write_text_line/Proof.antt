@@ -23,21 +23,9 @@ fits : (c : tie.After-enum-told) → (c .before .before .before .before .before 
 unfolding textOn
 fits c = on-both (c .before .before .before .before .before .before .before .before .before .args .k) _ (begun (line (c .before .before .before .before)) _ (c .enum-told .given .1) .fits)
 
-text-on-requires : tie.Need-text-on-requires
-text-on-requires c κs = search needs
-
 begin-line-requires : tie.Need-begin-line-requires
 unfolding textOn
 begin-line-requires c κs = λ e. on-both (c .before .before .before .before .args .k) _ (sym (c .text-on .ensures) ∙ e) .0
-
-enum-told : tie.Need-enum-told
-enum-told c = search needs
-
-enum-told-2 : tie.Need-enum-told-2
-enum-told-2 c = search needs
-
-same-length : tie.Need-same-length
-same-length c = search needs
 
 returns : tie.Need-returns
 returns c = line-refused (line (c .before .before .before .before)) _ (c .enum-told2 .given .1)
@@ -47,15 +35,6 @@ sub-write-text c = omega (arith, begun-room (line (c .before .before .before .be
 
 part-write-text-start : tie.Need-part-write-text-start
 part-write-text-start c = omega (arith, begun-room (line (c .before .before .before .before)) _ (c .enum-told .given .1))
-
-part-write-text-end : tie.Need-part-write-text-end
-part-write-text-end c = search needs
-
-write-text-requires : tie.Need-write-text-requires
-write-text-requires c κs = search needs
-
-same-length-2 : tie.Need-same-length-2
-same-length-2 c = search needs
 
 returns-2 : tie.Need-returns-2
 returns-2 c =
@@ -71,15 +50,15 @@ pub write-text-line-spec : {M : Type 1} → statement M
 write-text-line-spec =
     tie.close
     (tie.spec
-    text-on-requires
+    (λ c κs. search needs)
     begin-line-requires
-    enum-told
-    enum-told-2
-    same-length
+    (λ c. search needs)
+    (λ c. search needs)
+    (λ c. search needs)
     returns
     sub-write-text
     part-write-text-start
-    part-write-text-end
-    write-text-requires
-    same-length-2
+    (λ c. search needs)
+    (λ c κs. search needs)
+    (λ c. search needs)
     returns-2)

@@ -24,21 +24,9 @@ fits : (c : tie.After-enum-told) → (c .before .before .before .before .before 
 unfolding timeOn
 fits c = on-both (c .before .before .before .before .before .before .before .before .args .k) _ (begun (line (c .before .before .before .before)) _ (c .enum-told .given .1) .fits)
 
-time-on-requires : tie.Need-time-on-requires
-time-on-requires c κs = search needs
-
 begin-line-requires : tie.Need-begin-line-requires
 unfolding timeOn
 begin-line-requires c κs = λ e. on-both (c .before .before .before .args .k) _ (sym (c .time-on .ensures) ∙ e) .0
-
-enum-told : tie.Need-enum-told
-enum-told c = search needs
-
-enum-told-2 : tie.Need-enum-told-2
-enum-told-2 c = search needs
-
-same-length : tie.Need-same-length
-same-length c = search needs
 
 returns : tie.Need-returns
 returns c = line-refused (line (c .before .before .before .before)) _ (c .enum-told2 .given .1)
@@ -49,17 +37,8 @@ sub-write-general c = omega (arith, begun-room (line (c .before .before .before 
 part-write-general-start : tie.Need-part-write-general-start
 part-write-general-start c = omega (arith, begun-room (line (c .before .before .before .before)) _ (c .enum-told .given .1))
 
-part-write-general-end : tie.Need-part-write-general-end
-part-write-general-end c = search needs
-
 is-long-requires : tie.Need-is-long-requires
 is-long-requires c κs = fits (c .before) .0
-
-write-general-requires : tie.Need-write-general-requires
-write-general-requires c κs = search needs
-
-same-length-2 : tie.Need-same-length-2
-same-length-2 c = search needs
 
 returns-2 : tie.Need-returns-2
 returns-2 c =
@@ -76,16 +55,16 @@ pub write-time-line-spec : {M : Type 1} → statement M
 write-time-line-spec =
     tie.close
     (tie.spec
-    time-on-requires
+    (λ c κs. search needs)
     begin-line-requires
-    enum-told
-    enum-told-2
-    same-length
+    (λ c. search needs)
+    (λ c. search needs)
+    (λ c. search needs)
     returns
     sub-write-general
     part-write-general-start
-    part-write-general-end
+    (λ c. search needs)
     is-long-requires
-    write-general-requires
-    same-length-2
+    (λ c κs. search needs)
+    (λ c. search needs)
     returns-2)

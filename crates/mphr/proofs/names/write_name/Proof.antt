@@ -18,9 +18,6 @@ use Rattle.mphr.proofs.names.write_name.Tie as tie
 returns : tie.Need-returns
 returns c = let s = c .before .before in write-unfit (now (s .args .room)) (length (nameOf (s .args .k))) (length (nameOf (s .args .k))) refl (leb (s .args .k) 71) (putText (now (s .args .room)) (nameOf (s .args .k))) (lt-leb (s .args .k) 71 (c .if1 .taken))
 
-name-width-requires : tie.Need-name-width-requires
-name-width-requires c κs = search needs
-
 returns-2 : tie.Need-returns-2
 returns-2 c =
     let s = c .before .before .before .before in
@@ -32,9 +29,6 @@ put-name-requires c κs =
     let s = w .before .before .before in
     let k : s .args .k < 72 = omega arith in
     (k, omega (arith, w .name-width .ensures, most (s .args .k) k), c .before .if2 .left)
-
-same-length : tie.Need-same-length
-same-length c = search needs
 
 returns-3 : tie.Need-returns-3
 returns-3 c =
@@ -51,8 +45,8 @@ write-name-spec =
     tie.close
     (tie.spec
     returns
-    name-width-requires
+    (λ c κs. search needs)
     returns-2
     put-name-requires
-    same-length
+    (λ c. search needs)
     returns-3)

@@ -24,7 +24,7 @@ use Rattle.judge.specs.Table.{Clean, table}
 use Rattle.judge.proofs.Local.{lawful}
 use Rattle.demands.specs.Product.{Meets}
 use Rattle.demands.proofs.Accepted.{meets-complete}
-use Rattle.query.specs.Query.{mainPart, sortOf, timesOf, FieldOf, Allowed, valueStart, FieldIs, numberIn, NumberIs, timeIn, TimeIs}
+use Rattle.query.specs.Query.{mainPart, sortOf, timesOf, FieldOf, Allowed, valueStart, TextIs, numberIn, NumberIs, timeIn, TimeIs}
 use Rattle.query.specs.declared.Sort.{Sort}
 use Rattle.query.specs.declared.Sort.the-variants.{Numbers, Texts}
 use Rattle.query.specs.declared.FieldAnswer.{FieldAnswer}
@@ -74,7 +74,7 @@ module _ {b : List ℕ} (m : Meets b) where
     field-come : k < 72 → lineStart k + 32 + widthOf k ≤ length b
     field-come h = omega (arith, start-small {k = k} (omega arith), come)
 
-    pub text-answered : (t : List ℕ) → WritesTextLine room k t (W.Bytes n) exit → (r : FieldAnswer) → FieldIs b k Texts r → (r ≡ F.Part (valueStart k) (widthOf k)) × (take (widthOf k) (drop (valueStart k) b) ≡ t)
+    pub text-answered : (t : List ℕ) → WritesTextLine room k t (W.Bytes n) exit → (r : FieldAnswer) → TextIs b k r → (r ≡ F.Part (valueStart k) (widthOf k)) × (take (widthOf k) (drop (valueStart k) b) ≡ t)
     unfolding textOn
     text-answered t w r f =
         let d = line-written room exit n k (textOn k t) (λ (a : List ℕ). putText a t) w in

@@ -11,7 +11,7 @@ use Rattle.record.specs.declared.header.Header.{Header}
 use Rattle.judge.specs.Table.{Site, Leads, here, on, Open}
 use Rattle.judge.specs.declared.arrival.Arrival.the-variants.{Waiting}
 use Rattle.query.specs.Query as Q
-use Rattle.query.specs.Query.{StartOf, RecordFound, NoRecord, not-yet, RecordIs, Denied, short, no-field, Allowed, FieldIs, NumberIs, TimeIs, PointIs}
+use Rattle.query.specs.Query.{StartOf, RecordFound, NoRecord, not-yet, RecordIs, Denied, short, no-field, Allowed, FieldIs, TextIs, NumberIs, TimeIs, PointIs}
 use Rattle.query.specs.declared.Sort.{Sort}
 use Rattle.query.specs.declared.Sort.the-variants.{Texts}
 use Rattle.query.specs.declared.RecordAnswer.{RecordAnswer}
@@ -94,7 +94,7 @@ unique-field-at a k sort (F.Part i w) (F.Refused s) f e = absurd (no-and-yes (f 
 unique-field-at a k sort (F.Refused r) (F.Part j v) f e = absurd (no-and-yes (e .allowed) f)
 unique-field-at a k sort (F.Refused r) (F.Refused s) f e = ap F.Refused (one-refusal r s (one-denied f e))
 
-pub unique-text-field : (a : List ℕ) (k : ℕ) (r s : FieldAnswer) → FieldIs a k Texts r → FieldIs a k Texts s → r ≡ s
+pub unique-text-field : (a : List ℕ) (k : ℕ) (r s : FieldAnswer) → TextIs a k r → TextIs a k s → r ≡ s
 unique-text-field a k = unique-field-at a k Texts
 
 pub unique-number-field : (a : List ℕ) (k : ℕ) (r s : NumberAnswer) → NumberIs a k r → NumberIs a k s → r ≡ s

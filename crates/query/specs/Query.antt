@@ -126,6 +126,10 @@ abbrev pub FieldIs : List ℕ → ℕ → Sort → FieldAnswer → Type 0
 FieldIs a k sort (F.Part i w) = PartIs a k sort i w
 FieldIs a k sort (F.Refused r) = Denied a k sort (r .number) (r .place)
 
+-- where the text of field k stands
+abbrev pub TextIs : List ℕ → ℕ → FieldAnswer → Type 0
+TextIs a k r = FieldIs a k Texts r
+
 abbrev pub noField : FieldAnswer
 noField = F.Refused (refusing 22 0)
 

@@ -15,8 +15,7 @@ ghost use mathlib.Core.Path.{_≡_};
 ghost use mathlib.Core.Bool.{true, false};
 ghost use Prim.Native.Nat.{_+_, _≤_, _<_};
 ghost use lib.ListN.{length};
-ghost use Rattle.query.specs.Query.{StartOf, RecordIs, Reachable, sortOf, timesOf, sortNumber, noField, FieldIs};
-ghost use Rattle.query.specs.declared.Sort.the-variants.{Texts};
+ghost use Rattle.query.specs.Query.{StartOf, RecordIs, Reachable, sortOf, timesOf, sortNumber, noField, FieldIs, TextIs};
 ghost use Rattle.query.specs.Query.{NumberIs, TimeIs, latitudeField, pointOf, PointIs, Exact};
 
 pub enum RecordAnswer {
@@ -221,7 +220,7 @@ pub fn long_time_field(bytes: &[u8], k: usize) -> TimeAnswer
 
 // Where the text of field k stands.
 pub fn text_field(bytes: &[u8], k: usize) -> FieldAnswer
-    ensures { λ r. ⌜ FieldIs (now (bytes .entry)) k Texts r ⌝ }
+    ensures { λ r. ⌜ TextIs (now (bytes .entry)) k r ⌝ }
 {
     field_at(bytes, k, Sort::Texts)
 }

@@ -18,8 +18,7 @@ use Rattle.mphr.specs.declared.layout.FieldPlace.the-variants as D
 use Rattle.mphr.specs.Lookup.{saidField, fieldNamed}
 use Rattle.mphr.specs.declared.names.FieldNumber.{FieldNumber}
 use Rattle.mphr.specs.declared.names.FieldNumber.the-variants as L
-use Rattle.query.specs.Query.{FieldIs, NumberIs, TimeIs, PointIs}
-use Rattle.query.specs.declared.Sort.the-variants.{Texts}
+use Rattle.query.specs.Query.{TextIs, NumberIs, TimeIs, PointIs}
 use Rattle.query.specs.declared.FieldAnswer.{FieldAnswer}
 use Rattle.query.specs.declared.FieldAnswer.the-variants as F
 use Rattle.query.specs.declared.NumberAnswer.{NumberAnswer}
@@ -70,7 +69,7 @@ textSaid (F.Part i w) = 0 ∷ 0 ∷ i ∷ w ∷ []
 textSaid (F.Refused r) = refused 4 r
 
 abbrev pub TextTold : List ℕ → ℕ → List ℕ → Type 0
-TextTold a k numbers = Told (FieldIs a k Texts) textSaid numbers
+TextTold a k numbers = Told (TextIs a k) textSaid numbers
 
 -- the number of the field
 abbrev pub fieldSaid : FieldNumber → List ℕ

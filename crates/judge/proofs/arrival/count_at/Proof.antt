@@ -10,7 +10,7 @@ returns : tie.Need-returns
 returns c k = let a = c .before .before .args in c .count-at .ensures ∙ count-is (now (a .s)) (a .at) (a .width) (k .number) (k .small) (k .come)
 
 pub count-at-spec : {M : Type 1} → statement M
-count-at-spec = 
+count-at-spec =
     tie.close
     (tie.spec
     (λ c κs. search needs)

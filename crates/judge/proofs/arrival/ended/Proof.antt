@@ -22,7 +22,7 @@ returns-3 : tie.Need-returns-3
 returns-3 c = say-whole (c .before .before .before .before .before .before .pre) (c .before .before .is-short .ensures .none (c .before .if1 .left)) (c .if2 .left)
 
 pub ended-spec : {M : Type 1} → statement M
-ended-spec = 
+ended-spec =
     tie.close
     (tie.spec
     (λ c κs. search needs)

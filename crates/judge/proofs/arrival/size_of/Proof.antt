@@ -8,7 +8,7 @@ returns : tie.Need-returns
 returns c = size-said (c .before .before .pre) (c .count-at .ensures)
 
 pub size-of-spec : {M : Type 1} → statement M
-size-of-spec = 
+size-of-spec =
     tie.close
     (tie.spec
     (λ c κs. search needs)

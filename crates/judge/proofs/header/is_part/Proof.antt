@@ -23,7 +23,7 @@ returns-2 c =
     left-of at d (omega arith) _ refl ∙ sym (ap (λ (b : Bool). b && ltb d (at + 20)) (lt-ltb at d (omega arith)))
 
 pub is-part-spec : {M : Type 1} → statement M
-is-part-spec = 
+is-part-spec =
     tie.close
     (tie.spec
     returns

@@ -22,7 +22,7 @@ returns-4 c = record {
 }
 
 pub is-six-spec : {M : Type 1} → statement M
-is-six-spec = 
+is-six-spec =
     tie.close
     (tie.spec
     returns

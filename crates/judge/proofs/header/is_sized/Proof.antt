@@ -22,7 +22,7 @@ returns-4 c = record {
 }
 
 pub is-sized-spec : {M : Type 1} → statement M
-is-sized-spec = 
+is-sized-spec =
     tie.close
     (tie.spec
     returns

@@ -18,7 +18,7 @@ returns c =
     (omega (arith, k .room, k .d-is)) (omega (arith, k .d-is)) (k .known) (k .totals) (c .rank-in .ensures (s .pre .1))
 
 pub rank-spec : {M : Type 1} → statement M
-rank-spec = 
+rank-spec =
     tie.close
     (tie.spec
     (λ c. search needs)

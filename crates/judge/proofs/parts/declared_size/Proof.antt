@@ -8,7 +8,7 @@ returns : tie.Need-returns
 returns c b = size-said b (c .count-at .ensures)
 
 pub declared-size-spec : {M : Type 1} → statement M
-declared-size-spec = 
+declared-size-spec =
     tie.close
     (tie.spec
     (λ c κs. search needs)

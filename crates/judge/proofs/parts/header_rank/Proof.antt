@@ -16,7 +16,7 @@ rank-in-requires c κs =
     record { come = search needs; known = sym (e .before .is-class .ensures) ∙ not-false (e .before .is-class .result) (e .if1 .left); nine = search needs; nine′ = search needs }
 
 pub header-rank-spec : {M : Type 1} → statement M
-header-rank-spec = 
+header-rank-spec =
     tie.close
     (tie.spec
     (λ c κs. search needs)

@@ -11,7 +11,7 @@ returns-2 : tie.Need-returns-2
 returns-2 c = ((λ e. clash (sym (c .if1 .left) ∙ e)), (λ _. refl))
 
 pub due-of-spec : {M : Type 1} → statement M
-due-of-spec = 
+due-of-spec =
     tie.close
     (tie.spec
     returns

@@ -19,7 +19,7 @@ refill-requires c κs =
     (scan-narrow (le-refl _) (omega (arith, k .2)) (k .0 .cursor), omega (arith, k .0 .within), omega arith, omega arith)
 
 pub ready-spec : {M : Type 1} → statement M
-ready-spec = 
+ready-spec =
     tie.close
     (tie.spec
     returns

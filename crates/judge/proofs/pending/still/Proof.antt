@@ -11,7 +11,7 @@ returns-2 : tie.Need-returns-2
 returns-2 c = still-no
 
 pub still-spec : {M : Type 1} → statement M
-still-spec = 
+still-spec =
     tie.close
     (tie.spec
     returns

@@ -35,7 +35,7 @@ returns-2 c =
     record { end-is = h .end-is; from-is = h .from-is; sooner = h .sooner; soon = h .soon; last-is = h .last-is; still = λ e. (sym (h .rising-is) ∙ e, c .if2 .left) }
 
 pub joined-spec : {M : Type 1} → statement M
-joined-spec = 
+joined-spec =
     tie.close
     (tie.spec
     returns

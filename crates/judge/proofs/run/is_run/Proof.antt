@@ -18,7 +18,7 @@ returns-4 : tie.Need-returns-4
 returns-4 c = λ e. (record { known = sym (c .is-class .ensures) ∙ e; other = c .before .before .before .if1 .left; least = c .before .before .if2 .left }, c .before .if3 .left)
 
 pub is-run-spec : {M : Type 1} → statement M
-is-run-spec = 
+is-run-spec =
     tie.close
     (tie.spec
     returns

@@ -16,7 +16,7 @@ returns-2 : tie.Need-returns-2
 returns-2 c = record { even = λ a m e n. goes-on (c .before .if1 .left) e m n; end-is = refl; counted = omega arith }
 
 pub grown-spec : {M : Type 1} → statement M
-grown-spec = 
+grown-spec =
     tie.close
     (tie.spec
     (λ c. search needs)

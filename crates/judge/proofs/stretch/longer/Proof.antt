@@ -11,7 +11,7 @@ returns-2 : tie.Need-returns-2
 returns-2 c = inl refl
 
 pub longer-spec : {M : Type 1} → statement M
-longer-spec = 
+longer-spec =
     tie.close
     (tie.spec
     returns

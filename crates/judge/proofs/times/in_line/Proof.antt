@@ -11,7 +11,7 @@ returns-2 : tie.Need-returns-2
 returns-2 c = λ e. inr (eqb-true _ _ e)
 
 pub in-line-spec : {M : Type 1} → statement M
-in-line-spec = 
+in-line-spec =
     tie.close
     (tie.spec
     returns

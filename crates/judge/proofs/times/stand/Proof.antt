@@ -13,7 +13,7 @@ returns-2 : tie.Need-returns-2
 returns-2 c = let s = c .before .before .before .before in stands (now (s .args .s)) (s .args .at) (c .times-stand .result) (s .pre) (c .times-stand .ensures)
 
 pub stand-spec : {M : Type 1} → statement M
-stand-spec = 
+stand-spec =
     tie.close
     (tie.spec
     (λ c κs. search needs)

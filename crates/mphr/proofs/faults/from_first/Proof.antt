@@ -36,7 +36,7 @@ returns-4 c =
     c .walk .ensures (begin (head-stands t) (sym (stands _ 0 (t .times-stand .result) (omega arith) (t .times-stand .ensures)) ∙ not-false (t .times-stand .result) (e .if3 .left)))
 
 pub from-first-spec : {M : Type 1} → statement M
-from-first-spec = 
+from-first-spec =
     tie.close
     (tie.spec
     returns

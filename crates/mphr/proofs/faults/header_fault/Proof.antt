@@ -19,7 +19,7 @@ returns-2 : tie.Need-returns-2
 returns-2 c = let g = c .enum-told .given in told (c .before .before) (R.Line (g .0 .0) (g .0 .1 .0)) (g .1) .0
 
 pub header-fault-spec : {M : Type 1} → statement M
-header-fault-spec = 
+header-fault-spec =
     tie.close
     (tie.spec
     (λ c κs. search needs)

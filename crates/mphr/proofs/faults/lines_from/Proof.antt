@@ -22,7 +22,7 @@ returns-4 : tie.Need-returns-4
 returns-4 c = let e = c .before in λ r. c .walk .ensures (resumed (omega arith) (omega (arith, e .before .start .ensures, e .if3 .left)) r)
 
 pub lines-from-spec : {M : Type 1} → statement M
-lines-from-spec = 
+lines-from-spec =
     tie.close
     (tie.spec
     (λ c κs. search needs)

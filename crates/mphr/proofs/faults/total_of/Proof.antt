@@ -17,7 +17,7 @@ returns c =
     (λ y. c .count-at .ensures ∙ count-is a i 6 (y .counts (s .args .j) (omega arith)) (omega arith) (omega (arith, y .come)) ∙ sym (total-is a (s .args .j) (omega arith)), omega (arith, c .count-at .ensures, count-most a i))
 
 pub total-of-spec : {M : Type 1} → statement M
-total-of-spec = 
+total-of-spec =
     tie.close
     (tie.spec
     (λ c. search needs)

@@ -10,7 +10,7 @@ unfolding fields kinds codes
 returns c = code-at (c .args .k)
 
 pub code-spec : {M : Type 1} → statement M
-code-spec = 
+code-spec =
     tie.close
     (tie.spec
     (λ c. search needs)

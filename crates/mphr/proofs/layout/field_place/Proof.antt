@@ -25,7 +25,6 @@ returns-2 c =
 
 pub field-place-spec : {M : Type 1} → statement M
 field-place-spec =
-    
     tie.close
     (tie.spec
     returns

@@ -10,7 +10,7 @@ unfolding fields kinds codes
 kind-at-requires c κs = (search needs, refl)
 
 pub kind-spec : {M : Type 1} → statement M
-kind-spec = 
+kind-spec =
     tie.close
     (tie.spec
     kind-at-requires

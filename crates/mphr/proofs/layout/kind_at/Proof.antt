@@ -13,7 +13,7 @@ returns : tie.Need-returns
 returns c = let s = c .before .before in c .kind-of .ensures ∙ ap (λ (t : List ℕ). kindFrom (getD t (s .args .k) 0)) (s .pre .1) ∙ kind-from (s .args .k)
 
 pub kind-at-spec : {M : Type 1} → statement M
-kind-at-spec = 
+kind-at-spec =
     tie.close
     (tie.spec
     (λ c. search needs)

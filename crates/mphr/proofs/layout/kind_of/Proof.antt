@@ -26,7 +26,7 @@ returns-6 c =
     rw (ne-eqb n 0 (c .before .before .before .before .if1 .left), ne-eqb n 1 (c .before .before .before .if2 .left), ne-eqb n 2 (c .before .before .if3 .left), ne-eqb n 3 (c .before .if4 .left), ne-eqb n 4 (c .if5 .left))
 
 pub kind-of-spec : {M : Type 1} → statement M
-kind-of-spec = 
+kind-of-spec =
     tie.close
     (tie.spec
     returns

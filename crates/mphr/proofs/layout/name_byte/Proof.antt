@@ -10,7 +10,7 @@ unfolding fields rows names
 returns c = refl
 
 pub name-byte-spec : {M : Type 1} → statement M
-name-byte-spec = 
+name-byte-spec =
     tie.close
     (tie.spec
     (λ c. search needs)

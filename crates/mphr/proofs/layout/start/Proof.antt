@@ -13,7 +13,7 @@ unfolding fields widths starts
 returns c = start-at (c .args .k) (c .pre)
 
 pub start-spec : {M : Type 1} → statement M
-start-spec = 
+start-spec =
     tie.close
     (tie.spec
     (λ c. search needs)

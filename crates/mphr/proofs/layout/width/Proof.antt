@@ -10,7 +10,7 @@ unfolding fields widths
 width-at-requires c κs = (search needs, refl)
 
 pub width-spec : {M : Type 1} → statement M
-width-spec = 
+width-spec =
     tie.close
     (tie.spec
     width-at-requires

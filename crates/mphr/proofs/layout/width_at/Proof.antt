@@ -18,7 +18,7 @@ returns : tie.Need-returns
 returns c = let s = c .before .before in (same c, omega (arith, same c, width-most (s .args .k) (s .pre .0)))
 
 pub width-at-spec : {M : Type 1} → statement M
-width-at-spec = 
+width-at-spec =
     tie.close
     (tie.spec
     (λ c. search needs)

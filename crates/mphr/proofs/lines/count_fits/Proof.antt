@@ -15,7 +15,7 @@ returns-2 c =
     c .fits-number .ensures ∙ ap (fitsNumber false (a .w)) t ∙ sym (ap (countFits (a .w)) t)
 
 pub count-fits-spec : {M : Type 1} → statement M
-count-fits-spec = 
+count-fits-spec =
     tie.close
     (tie.spec
     (λ c. search needs)

@@ -12,7 +12,7 @@ returns : tie.Need-returns
 returns c = ap (λ (n : ℕ). eqb n 5) (c .code .ensures) ∙ long-by (kindOf (c .before .args .k))
 
 pub is-long-spec : {M : Type 1} → statement M
-is-long-spec = 
+is-long-spec =
     tie.close
     (tie.spec
     (λ c κs. search needs)

@@ -60,7 +60,9 @@ enum wl_refusal {
     WL_MALFORMED = 21,      /* a number, time, date or header is malformed or outside our limits; 0 */
     WL_NO_FIELD = 22,       /* no such field, another kind, or a value that does not fit its line; 0 */
     WL_LISTING_LIMIT = 23,  /* a listing of more than 65,536 bytes; 65536 */
-    WL_TOO_MANY_POINTERS = 24 /* a watch was fed a 65th pointer record; its start */
+    WL_TOO_MANY_POINTERS = 24, /* a watch was fed a 65th pointer record; its start */
+    WL_WINDOW = 25,         /* a window of time is undefined or invalid, or ends before it starts; 0 */
+    WL_RESULT_LIMIT = 28    /* a product to be written would have over 2,147,483,647 bytes or over 999,999 records; 0 */
 };
 
 /* ---- sizes of the answers */
@@ -250,6 +252,17 @@ void wl_ground_point(const uint8_t *bytes, size_t len, uint8_t which, double poi
  * group, subclass, version, size), what lies beyond kept; or 23 with 65536 over 65,536 bytes, the refusal of the finished judge 1 to 17, or 18 with
  * the bytes needed. The text has no zero at its end; a room of 131,072 bytes is always enough; of a refusal nothing is written. */
 void wl_listing(const uint8_t *bytes, size_t len, uint8_t *text, size_t room, uint64_t answer[4]);
+
+/* ---- new products */
+
+/* The cut of a product to a window of time, at the start of the room: 0, 0, the bytes written, 0, what lies beyond kept. Of the MDRs those whose start
+ * is defined and lies in the window are carried over, both ends in; with them the SPHR and the auxiliary records (classes 4 to 7), byte for byte and in
+ * their order; one pointer record to the first record of each class, group and subclass that is there; and the main header, with the size, the totals,
+ * SENSING_START, SENSING_END, the two times in PRODUCT_NAME, the degraded counts, the durations and SUBSETTED_PRODUCT set anew. Or 25 where an end
+ * is undefined (a flag of 0) or invalid, or the last before the first; the refusal of the finished judge 1 to 17; 28; or 18 with the bytes needed. Of
+ * a refusal nothing is written. The result is accepted by wl_finished. It has at most the bytes of the product and 27 for each of its records. */
+void wl_cut(const uint8_t *bytes, size_t len, uint8_t first_defined, uint16_t first_day, uint32_t first_milli, uint8_t last_defined, uint16_t last_day,
+            uint32_t last_milli, uint8_t *room, size_t room_len, uint64_t answer[4]);
 
 /* ---- record headers and lines of the main header */
 

@@ -145,6 +145,27 @@ pub fn listing(bytes: &[u8], text: &mut [u8]) -> Result<usize, Refusal> {
     form::written(raw::listing(bytes, text), text.len())
 }
 
+// ---- new products
+
+/// The cut of a product to a window of time, at the start of the room, as so many bytes.
+pub fn cut_into(bytes: &[u8], first: Option<Time>, last: Option<Time>, room: &mut [u8]) -> Result<usize, Refusal> {
+    form::written(raw::cut(bytes, flat_time(first), flat_time(last), room), room.len())
+}
+
+/// The cut of a product to a window of time. It is seldom longer than the product; where it is, it is cut again into the bytes that it needs.
+pub fn cut(bytes: &[u8], first: Option<Time>, last: Option<Time>) -> Result<Vec<u8>, Refusal> {
+    let mut room = vec![0; bytes.len()];
+    let written = match cut_into(bytes, first, last, &mut room) {
+        Err(Refusal { number: 18, place }) => {
+            room.resize(place as usize, 0);
+            cut_into(bytes, first, last, &mut room)
+        }
+        other => other,
+    };
+    room.truncate(written?);
+    Ok(room)
+}
+
 // ---- dates and times
 
 pub fn is_date(date: Date) -> bool {

@@ -1,5 +1,5 @@
 //! Request Three: the cut that was written from the papers gives the request's vectors byte for byte, and whatever it writes is accepted by both
-//! judges, with the chosen MDRs and no others.
+//! judges, with the chosen MDRs and no others; with the feature, that of the boundary answers and writes the same.
 use outside::cut::cut;
 use outside::generate::{product, Product, Rng};
 use outside::json::Json;
@@ -19,8 +19,29 @@ fn cut_in(bytes: &[u8], window: [Option<Time>; 2], room: usize) -> (Written, Vec
     let answer = cut(bytes, window[0], window[1], &mut lent);
     let written = answer.unwrap_or(0);
     assert!(lent[written..].iter().all(|b| *b == KEPT), "{answer:?}");
+    #[cfg(feature = "boundary")]
+    same_at_boundary(bytes, window, &lent, answer);
     lent.truncate(written);
     (answer, lent)
+}
+
+/// The answer and the whole room, and the product kept; raw, a part of a time that is undefined is not looked at.
+#[cfg(feature = "boundary")]
+fn same_at_boundary(bytes: &[u8], window: [Option<Time>; 2], right: &[u8], answer: Written) {
+    use outside::boundary;
+    let (before, mut lent) = (bytes.to_vec(), vec![KEPT; right.len()]);
+    assert_eq!(boundary::cut_into(bytes, window[0], window[1], &mut lent), answer);
+    assert!(lent == right, "{answer:?}");
+    if window.contains(&None) {
+        let [a, b] = window.map(|t| t.map_or((0, 65_535, u32::MAX), |t| (255, t.day, t.milli)));
+        assert_eq!(boundary::raw::cut(bytes, a, b, &mut lent), [25, 0, 0, 0]);
+    }
+    if let (Ok(n), true) = (answer, bytes.len() < 10_000) {
+        assert_eq!(boundary::cut(bytes, window[0], window[1]).as_deref(), Ok(&right[..n]));
+        let mut index = vec![0; n / 20];
+        assert_eq!(boundary::finished(&right[..n], &mut index), plain::finished(&right[..n], &mut vec![0; n / 20]));
+    }
+    assert_eq!(bytes, before);
 }
 
 fn time(value: &Json) -> Option<Time> {

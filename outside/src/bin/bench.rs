@@ -1,7 +1,9 @@
-//! Times of the judges on three large products, and of the watch: medians of runs taken in turn.
-use outside::generate::{build, Product, Rng, Shape};
+//! Times of the judges on three large products, of the watch and of the cut: medians of runs taken in turn.
+use outside::generate::{build, Product, Rng, Shape, GROUPS};
+use outside::leaves::read_header;
+use outside::values::Time;
 use outside::watch::Watch;
-use outside::{fast, Arrival, Finished};
+use outside::{cut, fast, Arrival, Finished};
 use std::cell::RefCell;
 use std::hint::black_box;
 use std::time::Instant;
@@ -153,6 +155,49 @@ fn measure_watch(p: &Product, length: usize, runs: usize, times: usize) {
     ratio(&all, "watch boundary", "arrival boundary");
 }
 
+/// So many records of as many kinds, or of one kind.
+fn kinds(records: usize, size: usize, many: bool) -> Product {
+    let class = |k: usize| if many { 4 + (k / 4096) as u8 } else { 8 };
+    let others = (0..records).map(|k| (class(k), size)).collect();
+    let mut p = build(&mut Rng(13), &Shape { first_version: 2, sphr: None, pointers: 0, others, sorted: true, rest: 0 });
+    for (k, s) in p.starts[1..].iter().enumerate() {
+        let (group, subclass) = if many { (GROUPS[k / 256 % 16], k as u8) } else { (0, 0) };
+        p.bytes[s + 1] = group;
+        p.bytes[s + 2] = subclass;
+    }
+    p
+}
+
+/// The window that has the first half of the MDRs by their starts.
+fn first_half(p: &Product) -> [Option<Time>; 2] {
+    let start = |s: &usize| read_header(&p.bytes, *s).ok().filter(|h| h.class == 8).and_then(|h| h.start);
+    let mut starts: Vec<(u16, u32)> = p.starts.iter().filter_map(start).map(|t| (t.day, t.milli)).collect();
+    starts.sort_unstable();
+    [0, (p.starts.len() / 2).min(starts.len() - 1)].map(|k| Some(Time { day: starts[k].0, milli: starts[k].1 }))
+}
+
+/// The cuts, and a plain copy of as many bytes as they write.
+fn measure_cut(what: &str, p: &Product, [first, last]: [Option<Time>; 2], runs: usize) {
+    let bytes = &p.bytes;
+    let room = &RefCell::new(vec![0; bytes.len() + 27 * p.starts.len()]);
+    let size = cut::cut(bytes, first, last, &mut room.borrow_mut()).unwrap();
+    let result = &room.borrow()[..size].to_vec();
+    println!("{what}: {} bytes, {} records, cut to {size} bytes", bytes.len(), p.starts.len());
+    let all = rounds(
+        runs,
+        1,
+        vec![
+            ("copy", Box::new(|| room.borrow_mut()[..size].copy_from_slice(black_box(result)))),
+            ("cut", Box::new(|| assert_eq!(cut::cut(black_box(bytes), first, last, &mut room.borrow_mut()), Ok(size)))),
+            #[cfg(feature = "boundary")]
+            ("cut boundary", Box::new(|| assert_eq!(boundary::cut_into(black_box(bytes), first, last, &mut room.borrow_mut()), Ok(size)))),
+        ],
+    );
+    assert!(room.borrow()[..size] == result[..]);
+    ratio(&all, "cut boundary", "cut");
+    ratio(&all, "cut boundary", "copy");
+}
+
 fn main() {
     let runs = std::env::var("RUNS").ok().and_then(|n| n.parse().ok()).unwrap_or(15).max(9);
     measure("even", || even(64, false), runs, 1);
@@ -172,5 +217,14 @@ fn main() {
         // The main header a byte at a time.
         let p = large(12, 0, 20, 0, true);
         measure_watch(&p, 1, runs, 100);
+    }
+    if !left_out("cut") {
+        let p = even(64, false);
+        measure_cut("cut, half of the MDRs", &p, first_half(&p), runs);
+        for many in [false, true] {
+            let p = kinds(20_480, 335, many);
+            let all = [Some(Time { day: 0, milli: 0 }), Some(Time { day: 65_535, milli: 86_399_999 })];
+            measure_cut(if many { "cut, 20,480 kinds" } else { "cut, one kind" }, &p, all, runs);
+        }
     }
 }

@@ -19,6 +19,12 @@ extern "C" {
     fn wl_ground_point(bytes: *const u8, len: usize, which: u8, point: &mut [f64; 2], answer: &mut [u64; 4]);
     fn wl_listing(bytes: *const u8, len: usize, text: *mut u8, room: usize, answer: &mut [u64; 4]);
 
+    #[rustfmt::skip]
+    fn wl_cut(
+        bytes: *const u8, len: usize, first_defined: u8, first_day: u16, first_milli: u32, last_defined: u8, last_day: u16, last_milli: u32,
+        room: *mut u8, room_len: usize, answer: &mut [u64; 4],
+    );
+
     fn wl_is_date(year: u16, month: u8, day: u8, answer: &mut [u64; 4]);
     fn wl_date_of(day: u16, answer: &mut [u64; 6]);
     fn wl_day_number(year: u16, month: u8, day: u8, answer: &mut [u64; 4]);
@@ -190,6 +196,12 @@ pub fn ground_point(bytes: &[u8], which: u8, point: &mut [f64; 2]) -> [u64; 4] {
 pub fn listing(bytes: &[u8], text: &mut [u8]) -> [u64; 4] {
     // SAFETY: as above.
     answered(|answer| unsafe { wl_listing(bytes.as_ptr(), bytes.len(), text.as_mut_ptr(), text.len(), answer) })
+}
+
+pub fn cut(bytes: &[u8], first: (u8, u16, u32), last: (u8, u16, u32), room: &mut [u8]) -> [u64; 4] {
+    let ((a, b, c), (d, e, f)) = (first, last);
+    // SAFETY: as above.
+    answered(|answer| unsafe { wl_cut(bytes.as_ptr(), bytes.len(), a, b, c, d, e, f, room.as_mut_ptr(), room.len(), answer) })
 }
 
 pub fn is_date((year, month, day): (u16, u8, u8)) -> [u64; 4] {

@@ -36,7 +36,7 @@ use Rattle.parts.specs.Parts.{bytes, bytesOf, Own, count, Fits, Tiles, B
 use Rattle.parts.specs.Only.{only, isSphr}
 use Rattle.parts.specs.Cut.{Window, isChosen, isKept, cutParts}
 use Rattle.parts.specs.Rewritten.{valueOf, text, number, time, whole, fitsLine, Rewritten, Counts, Anew, anew, valuesOf, countLines, Holdable}
-use Rattle.parts.specs.CutHeader.{sooner, later, firstStart, lastStop, toSecond, stamp, renamed, sensingStart, sensingEnd, otherLines, cutValues}
+use Rattle.parts.specs.CutHeader.{sooner, later, firstFrom, lastFrom, firstStart, lastStop, toSecond, stamp, renamed, sensingStart, sensingEnd, otherLines, cutValues}
 use Rattle.parts.proofs.OnlyLaws.{only-in}
 use Rattle.parts.proofs.Built.{built-meets, meets-built}
 use Rattle.parts.proofs.CutLaws.{cut-tiles, cut-built}
@@ -143,13 +143,11 @@ picked false t u v w = w
 
 valid-sooner : (t u : Time) → Valid t → Valid u → Valid (sooner t u)
 valid-sooner T.Undefined u v w = w
-valid-sooner (T.At d m) T.Undefined v w = v
-valid-sooner (T.At d m) (T.At e n) v w = picked (isAfter (compared (T.At d m) (T.At e n))) (T.At e n) (T.At d m) w v
+valid-sooner (T.At d m) u v w = picked (isAfter (compared (T.At d m) u)) u (T.At d m) w v
 
 valid-later : (t u : Time) → Valid t → Valid u → Valid (later t u)
 valid-later T.Undefined u v w = w
-valid-later (T.At d m) T.Undefined v w = v
-valid-later (T.At d m) (T.At e n) v w = picked (isAfter (compared (T.At d m) (T.At e n))) (T.At d m) (T.At e n) v w
+valid-later (T.At d m) u v w = picked (isAfter (compared u (T.At d m))) u (T.At d m) w v
 
 -- a record of bytes
 abbrev pub Bytes : List ℕ → Type 0
@@ -159,20 +157,13 @@ own-times : (r : List ℕ) → timedAt r 0 ≡ true → (isTime (timeAt r 8) ≡
 unfolding timedAt
 own-times r e = both (isTime (timeAt r 8)) (isTime (timeAt r 14)) (both (isTime (timeAt r 8) && isTime (timeAt r 14)) _ e .0)
 
-module _ (rs : List (List ℕ)) where
-  first-valid : ((r : List ℕ) → In r rs → Valid (timeAt r 8)) → Valid (firstStart rs)
-  first-valid = go rs
-    where
-      go : (xs : List (List ℕ)) → ((r : List ℕ) → In r xs → Valid (timeAt r 8)) → Valid (firstStart xs)
-      go [] f = tt
-      go (r ∷ xs) f = valid-sooner (timeAt r 8) (firstStart xs) (f r (top refl)) (go xs (λ x n. f x (pop n)))
+first-valid : (t : Time) (rs : List (List ℕ)) → Valid t → ((r : List ℕ) → In r rs → Valid (timeAt r 8)) → Valid (firstFrom t rs)
+first-valid t [] v f = v
+first-valid t (r ∷ rs) v f = first-valid (sooner t (timeAt r 8)) rs (valid-sooner t (timeAt r 8) v (f r (top refl))) (λ x n. f x (pop n))
 
-  last-valid : ((r : List ℕ) → In r rs → Valid (timeAt r 14)) → Valid (lastStop rs)
-  last-valid = go rs
-    where
-      go : (xs : List (List ℕ)) → ((r : List ℕ) → In r xs → Valid (timeAt r 14)) → Valid (lastStop xs)
-      go [] f = tt
-      go (r ∷ xs) f = valid-later (timeAt r 14) (lastStop xs) (f r (top refl)) (go xs (λ x n. f x (pop n)))
+last-valid : (t : Time) (rs : List (List ℕ)) → Valid t → ((r : List ℕ) → In r rs → Valid (timeAt r 14)) → Valid (lastFrom t rs)
+last-valid t [] v f = v
+last-valid t (r ∷ rs) v f = last-valid (later t (timeAt r 14)) rs (valid-later t (timeAt r 14) v (f r (top refl))) (λ x n. f x (pop n))
 
 second-fits : (t : Time) → Valid t → fitsGeneral false (toSecond t) ≡ true
 unfolding momentOf
@@ -289,8 +280,8 @@ module _ {m : List ℕ} {rs : List (List ℕ)} (w : Window) (b : Built m rs) (by
 
   cut-lines-fit : AllFit (otherLines m w rs)
   cut-lines-fit =
-      let f = second-fits (firstStart (only (isChosen w) rs)) (first-valid (only (isChosen w) rs) start-valid) in
-      let l = second-fits (lastStop (only (isChosen w) rs)) (last-valid (only (isChosen w) rs) stop-valid) in (
+      let f = second-fits (firstStart (only (isChosen w) rs)) (first-valid T.Undefined (only (isChosen w) rs) tt start-valid) in
+      let l = second-fits (lastStop (only (isChosen w) rs)) (last-valid T.Undefined (only (isChosen w) rs) tt stop-valid) in (
         name-line (renamed (valueOf m 0) (sensingStart m w rs) (sensingEnd m w rs)) (renamed-fits (valueOf m 0) (sensingStart m w rs) (sensingEnd m w rs) (name-long b) (name-prints b)),
         (line-10 (sensingStart m w rs) f, (line-11 (sensingEnd m w rs) l, unset-lines)),
       )

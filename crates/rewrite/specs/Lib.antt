@@ -1,0 +1,4 @@
+pub mod Table
+pub mod Emitting
+pub mod Keeping
+pub mod Surveying

@@ -4,3 +4,4 @@ pub mod EmitLaws
 pub mod TimesLaws
 pub mod KeepLaws
 pub mod SurveyLaws
+pub mod LineLaws

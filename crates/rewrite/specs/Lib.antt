@@ -2,3 +2,4 @@ pub mod Table
 pub mod Emitting
 pub mod Keeping
 pub mod Surveying
+pub mod Lining

@@ -3,5 +3,6 @@ pub use calendar::Refusal;
 
 mod copy;
 mod kinds;
+mod lines;
 mod survey;
 mod times;

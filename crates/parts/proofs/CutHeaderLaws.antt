@@ -43,7 +43,7 @@ use Rattle.parts.proofs.CutLaws.{cut-tiles, cut-built}
 use Rattle.parts.proofs.HeaderLaws.{AllFit, values-fit, counts-are, rewritten-fits}
 
 -- ---- the size and the totals
-count-most : (c : ℕ) (rs : List (List ℕ)) → count c rs ≤ length rs
+pub count-most : (c : ℕ) (rs : List (List ℕ)) → count c rs ≤ length rs
 count-most c [] = omega arith
 count-most c (r ∷ rs) = go (eqb (getD r 0 0) c) (count-most c rs)
   where
@@ -303,7 +303,7 @@ take-byte n x f k = go (decLt k n)
     go (yes h) = rw (getD-take n x k 0 h) (f k)
     go (no h) = rw (List·getD-eq-default (take n x) 0 {n = k} (omega (arith, h, length-take n x))) (omega arith)
 
-parts-byte : (a : List ℕ) → Bytes a → (l : List ℕ) (r : List ℕ) → In r (recordsAt a l) → Bytes r
+pub parts-byte : (a : List ℕ) → Bytes a → (l : List ℕ) (r : List ℕ) → In r (recordsAt a l) → Bytes r
 parts-byte a f [] r n = absurd (nil n)
 parts-byte a f (i ∷ l) r (top e) = rw e (take-byte (size a i) (drop i a) (λ k. rw (getD-drop i a k 0) (f (i + k))))
 parts-byte a f (i ∷ l) r (pop n) = parts-byte a f l r n

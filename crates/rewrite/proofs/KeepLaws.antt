@@ -41,7 +41,7 @@ unfolding keptAt
 kept-mdr w a i e = rw e
 
 -- ---- a record that stands at byte i
-own-times : (r : List ℕ) → timedAt r 0 ≡ true → (isTime (timeAt r 8) ≡ true) × (isTime (timeAt r 14) ≡ true)
+pub own-times : (r : List ℕ) → timedAt r 0 ≡ true → (isTime (timeAt r 8) ≡ true) × (isTime (timeAt r 14) ≡ true)
 unfolding timedAt
 own-times r e = both (isTime (timeAt r 8)) (isTime (timeAt r 14)) (both (isTime (timeAt r 8) && isTime (timeAt r 14)) _ e .0)
 

@@ -5,3 +5,4 @@ pub mod TimesLaws
 pub mod KeepLaws
 pub mod SurveyLaws
 pub mod LineLaws
+pub mod PlanLaws

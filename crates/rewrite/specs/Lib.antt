@@ -3,3 +3,5 @@ pub mod Emitting
 pub mod Keeping
 pub mod Surveying
 pub mod Lining
+pub mod Cut
+pub mod Planning

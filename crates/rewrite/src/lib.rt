@@ -2,6 +2,7 @@
 pub use calendar::Refusal;
 
 mod copy;
+pub mod cut;
 mod kinds;
 mod lines;
 mod survey;

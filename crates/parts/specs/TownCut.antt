@@ -1,0 +1,23 @@
+-- THE TOWN CUT, WHOLE (02, request Three: "Write a new product: MPHR with size, totals, SENSING_START, SENSING_END, the name's two times and
+-- SUBSETTED_PRODUCT (`T`) set anew; the SPHR, auxiliary records and chosen MDRs byte for byte in their order; one IPR for each class, group and subclass
+-- present in classes 4..8"). The records are said by `cutParts`, the lines of the main header by `cutValues`; all else of the header is kept
+-- (`Rewritten`). Assumes nothing.
+use Prim.Native.Nat.{ℕ}
+use mathlib.Core.Path.{_≡_}
+use mathlib.Core.List.{List}
+use Rattle.demands.specs.Product.{Meets}
+use Rattle.parts.specs.Parts.{bytesOf, mainOf, recordsAt}
+use Rattle.parts.specs.Cut.{Window, cutParts}
+use Rattle.parts.specs.Rewritten.{Rewritten}
+use Rattle.parts.specs.CutHeader.{cutValues}
+
+-- the records after the main header of the cut of a product a
+abbrev pub cutRecords : (a : List ℕ) → Window → Meets a → List (List ℕ)
+cutRecords a w t = cutParts (mainOf a) w (recordsAt a (t .list))
+
+-- b IS THE CUT of a by the window w
+pub record IsCut (a : List ℕ) (w : Window) (b : List ℕ) : Type 0 where
+  pub product : Meets a
+  pub header : List ℕ
+  pub lines : Rewritten (mainOf a) header (cutValues (mainOf a) w (recordsAt a (product .list)))
+  pub whole : b ≡ bytesOf header (cutRecords a w product)

@@ -1,0 +1,17 @@
+// Bytes into a room.
+ghost use mathlib.Core.Path.{_≡_};
+ghost use Prim.Native.Nat.{_+_, _≤_};
+ghost use lib.ListN.{length, take, drop};
+ghost use lib.Seq.{sets};
+
+// The n bytes of s from `from` on, into the room from `at` on.
+pub(crate) fn copy(s: &[u8], from: usize, n: usize, room: &mut [u8], at: usize)
+    requires { ⌜ (from + n ≤ length (now s)) × (at + n ≤ length (now room)) ⌝ }
+    ensures { λ r. ⌜ now (room .exit) ≡ sets (now (room .entry)) at (take n (drop from (now (s .entry)))) ⌝ }
+{
+    let mut i: usize = 0;
+    while i < n {
+        room[at + i] = s[from + i];
+        i += 1;
+    }
+}

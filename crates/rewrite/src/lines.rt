@@ -1,0 +1,146 @@
+// The main header of a new product: the old one, with lines set anew. Where a line stands is said by `mphr`, its value written by `text`
+// and `meter`.
+use crate::copy::copy;
+use meter::time::Time;
+use mphr::layout::FieldPlace;
+use mphr::layout::field_place;
+use text::Number;
+ghost use mathlib.Core.Path.{_≡_};
+ghost use mathlib.Core.Bool.{true};
+ghost use Prim.Native.Nat.{_+_, _≤_, _<_};
+ghost use lib.ListN.{length, getD};
+ghost use lib.Seq.{sets};
+ghost use Rattle.meter.specs.Time.{isTime};
+ghost use Rattle.mphr.specs.Layout.{widthOf, lineStart};
+ghost use Rattle.parts.specs.Parts.{mainOf};
+ghost use Rattle.parts.specs.Rewritten.{valueOf, Rewritten, valuesOf};
+ghost use Rattle.parts.specs.CutHeader.{toSecond, stamp};
+ghost use Rattle.rewrite.specs.Lining.{Adds, NumberFor, numberLine, wholeNumber, Totals, unknownLines, totalLines, timed, timeLines, HeaderFor, linesBy};
+
+// The value of line k.
+fn set_value(header: &mut [u8], k: usize, value: &[u8])
+    requires { ⌜ (k < 72) × (length (now header) ≡ 3307) × (length (now value) ≡ widthOf k) ⌝ }
+    ensures { λ r. ⌜ now (header .exit) ≡ sets (now (header .entry)) (lineStart k + 32) (now (value .entry)) ⌝ }
+{
+    let FieldPlace::Place(place) = field_place(k) else {
+        return;
+    };
+    copy(value, 0, value.len(), header, place.start + 32);
+}
+
+fn set_number(header: &mut [u8], k: usize, number: Number)
+    requires { ⌜ (length (now header) ≡ 3307) × NumberFor k number ⌝ }
+    ensures { λ r. ⌜ Adds (now (header .entry)) (now (header .exit)) (numberLine k number) ⌝ }
+{
+    let FieldPlace::Place(place) = field_place(k) else {
+        return;
+    };
+    let w = place.width;
+    let mut digits = [0u8; 17];
+    text::write_number(&mut digits[..w], w, false, number);
+    set_value(header, k, &digits[..w]);
+}
+
+fn whole(n: usize) -> Number
+    requires { ⌜ n ≤ 2147483647 ⌝ }
+    ensures { λ r. ⌜ r ≡ wholeNumber n ⌝ }
+{
+    Number::Whole(n as i64)
+}
+
+// A time cut to whole seconds: the long text without the digits of its millisecond.
+fn stamp_of(time: Time) -> [u8; 15]
+    requires { ⌜ isTime time ≡ true ⌝ }
+    ensures { λ r. ⌜ r ≡ stamp (toSecond time) ⌝ }
+{
+    let mut t = [0u8; 18];
+    meter::general::time_text(&mut t, time);
+    [
+        t[0],
+        t[1],
+        t[2],
+        t[3],
+        t[4],
+        t[5],
+        t[6],
+        t[7],
+        t[8],
+        t[9],
+        t[10],
+        t[11],
+        t[12],
+        t[13],
+        90,
+    ]
+}
+
+// "The degraded counts and the three durations become `x`", "SUBSETTED_PRODUCT (`T`)".
+fn set_unknown(header: &mut [u8])
+    requires { ⌜ length (now header) ≡ 3307 ⌝ }
+    ensures { λ r. ⌜ Adds (now (header .entry)) (now (header .exit)) unknownLines ⌝ }
+{
+    set_value(header, 71, b"T");
+    set_number(header, 70, Number::Undefined);
+    set_number(header, 69, Number::Undefined);
+    set_number(header, 68, Number::Undefined);
+    set_number(header, 67, Number::Undefined);
+    set_number(header, 66, Number::Undefined);
+    set_number(header, 65, Number::Undefined);
+    set_number(header, 64, Number::Undefined);
+}
+
+// The totals, of all records and of each class.
+fn set_totals(header: &mut [u8], totals: &[usize])
+    requires { ⌜ (length (now header) ≡ 3307) × Totals (now totals) ⌝ }
+    ensures { λ r. ⌜ Adds (now (header .entry)) (now (header .exit)) (totalLines (now (totals .entry)) 0 9) ⌝ }
+{
+    let mut j: usize = 9;
+    while 0 < j {
+        j -= 1;
+        set_number(header, 55 + j, whole(totals[j]));
+    }
+}
+
+// The name of the product s, with two times.
+fn name_of(s: &[u8], first: &[u8; 15], last: &[u8; 15]) -> [u8; 67]
+    requires { ⌜ 3307 ≤ length (now s) ⌝ }
+    ensures { λ r. ⌜ r ≡ timed (valueOf (now (s .entry)) 0) (now (first .entry)) (now (last .entry)) ⌝ }
+{
+    let mut name = [0u8; 67];
+    copy(s, 52, 67, &mut name, 0);
+    copy(first, 0, 15, &mut name, 16);
+    copy(last, 0, 15, &mut name, 32);
+    name
+}
+
+// "SENSING_START, SENSING_END, the name's two times".
+fn set_times(header: &mut [u8], s: &[u8], start: Time, stop: Time)
+    requires { ⌜ (length (now header) ≡ 3307) × (3307 ≤ length (now s)) × (isTime start ≡ true) × (isTime stop ≡ true) ⌝ }
+    ensures { λ r. ⌜ Adds (now (header .entry)) (now (header .exit)) (timeLines (valueOf (now (s .entry)) 0) start stop) ⌝ }
+{
+    let first = stamp_of(start);
+    let last = stamp_of(stop);
+    let name = name_of(s, &first, &last);
+    set_value(header, 11, &last);
+    set_value(header, 10, &first);
+    set_value(header, 0, &name);
+}
+
+// The main header of the cut of s.
+pub(crate) fn put_header(
+    s: &[u8],
+    start: Time,
+    stop: Time,
+    totals: &[usize],
+    size: usize,
+    header: &mut [u8],
+)
+    requires { ⌜ HeaderFor (now s) start stop (now totals) size (now header) ⌝ }
+    ensures { λ r. ⌜ Rewritten (mainOf (now (s .entry))) (now (header .exit)) (valuesOf (linesBy (mainOf (now (s .entry))) start stop (now (totals .entry)) size)) ⌝ }
+{
+    copy(s, 0, 3307, header, 0);
+    set_unknown(header);
+    set_times(header, s, start, stop);
+    set_totals(header, totals);
+    set_number(header, 28, whole(size));
+}

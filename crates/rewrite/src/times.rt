@@ -1,0 +1,88 @@
+// The times of records, and whether they lie in a window.
+use meter::time::Order;
+use meter::time::Time;
+use meter::time::TimeOrder;
+use meter::time::TimeRead;
+ghost use mathlib.Core.Path.{_≡_};
+ghost use mathlib.Core.Bool.{true};
+ghost use Prim.Native.Nat.{_+_, _≤_};
+ghost use lib.ListN.{length};
+ghost use Rattle.meter.specs.Time.{isTime, timeAt, compared};
+ghost use Rattle.record.specs.Times.{isAfter};
+ghost use Rattle.parts.specs.Cut.{isUpTo, window, within};
+ghost use Rattle.parts.specs.CutHeader.{sooner, later};
+
+// A time that is known to be right.
+pub(crate) fn time_at(s: &[u8], at: usize) -> Time
+    requires { ⌜ (at + 6 ≤ length (now s)) × (isTime (timeAt (now s) at) ≡ true) ⌝ }
+    ensures { λ r. ⌜ r ≡ timeAt (now (s .entry)) at ⌝ }
+{
+    match meter::time::read_time(s, at) {
+        TimeRead::Time(time) => time,
+        TimeRead::Refused(_) => Time::Undefined,
+    }
+}
+
+// Not after the other; undefined times have no order.
+pub(crate) fn is_up_to(time: Time, other: Time) -> bool
+    ensures { λ r. ⌜ r ≡ isUpTo (compared time other) ⌝ }
+{
+    match meter::time::time_order(time, other) {
+        TimeOrder::Refused(_) => false,
+        TimeOrder::Order(order) => match order {
+            Order::Before => true,
+            Order::Same => true,
+            Order::After => false,
+        },
+    }
+}
+
+fn is_after(time: Time, other: Time) -> bool
+    ensures { λ r. ⌜ r ≡ isAfter (compared time other) ⌝ }
+{
+    match meter::time::time_order(time, other) {
+        TimeOrder::Refused(_) => false,
+        TimeOrder::Order(order) => match order {
+            Order::Before => false,
+            Order::Same => false,
+            Order::After => true,
+        },
+    }
+}
+
+pub(crate) fn is_within(first: Time, last: Time, time: Time) -> bool
+    ensures { λ r. ⌜ r ≡ within (window first last) time ⌝ }
+{
+    if !is_up_to(first, time) {
+        return false;
+    }
+    is_up_to(time, last)
+}
+
+pub(crate) fn sooner(time: Time, other: Time) -> Time
+    ensures { λ r. ⌜ r ≡ sooner time other ⌝ }
+{
+    match time {
+        Time::Undefined => other,
+        Time::At { day: _, milli: _ } => {
+            if is_after(time, other) {
+                return other;
+            }
+            time
+        }
+    }
+}
+
+pub(crate) fn later(time: Time, other: Time) -> Time
+    ensures { λ r. ⌜ r ≡ later time other ⌝ }
+{
+    match time {
+        Time::Undefined => other,
+        Time::At { day: _, milli: _ } => {
+            if is_after(other, time) {
+                return other;
+            }
+            time
+        }
+    }
+}

@@ -201,7 +201,7 @@ none-text j h = let z : 0 + j ≡ j = omega arith in rw z at (each-in 32 126 (st
     test : isText (stamp G.Undefined) 0 15 ≡ true
     test = refl
 
-stamp-long : (g : General) → length (stamp g) ≡ 15
+pub stamp-long : (g : General) → length (stamp g) ≡ 15
 stamp-long g = general-length 14 (replicate 15 0) g
 
 stamp-text : (g : General) → Print (stamp g)

@@ -144,7 +144,7 @@ added-up {x} {y} {m} {n} {p} k a b =
         rw (u, v, w) (ap (λ (i : ℕ). N.Whole (pos i)) q)
 
 -- ---- three tables of the same lines
-abbrev Agree : List ℕ → List ℕ → List Anew → List Anew → List Anew → Type 0
+abbrev pub Agree : List ℕ → List ℕ → List Anew → List Anew → List Anew → Type 0
 Agree x m [] [] [] = Unit
 Agree x m [] [] (c ∷ cs) = ⊥
 Agree x m [] (b ∷ bs) cs = ⊥
@@ -153,7 +153,7 @@ Agree x m (a ∷ ws) (b ∷ bs) [] = ⊥
 Agree x m (a ∷ ws) (b ∷ bs) (c ∷ cs) =
     (b .line ≡ a .line) × (c .line ≡ a .line) × (spelling x (a .line) (b .value) ≡ spelling m (a .line) (c .value)) × Agree x m ws bs cs
 
-agree-spelled : (x m : List ℕ) (k : ℕ) (ws bs cs : List Anew) → Agree x m ws bs cs → valueOf x k ≡ spelling m k (valuesOf ws k) → spelling x k (valuesOf bs k) ≡ spelling m k (valuesOf cs k)
+pub agree-spelled : (x m : List ℕ) (k : ℕ) (ws bs cs : List Anew) → Agree x m ws bs cs → valueOf x k ≡ spelling m k (valuesOf ws k) → spelling x k (valuesOf bs k) ≡ spelling m k (valuesOf cs k)
 agree-spelled x m k [] [] [] g e = e
 agree-spelled x m k [] [] (c ∷ cs) g e = absurd g
 agree-spelled x m k [] (b ∷ bs) cs g e = absurd g
@@ -167,11 +167,11 @@ agree-spelled x m k (a ∷ ws) (b ∷ bs) (c ∷ cs) (u, v, s, g) e = go (ℕ-di
         let z = ne-eqb k (a .line) d in
         rw (u, v, z) (r (e ∙ ap (λ (t : Bool). spelling m k (cond t (a .value) (valuesOf ws k))) z))
 
-count-agree : (x m : List ℕ) (ps qs : List (List ℕ)) (ws bs cs : List Anew) → Agree x m ws bs cs → Agree x m (countLines ps ws) (countLines qs bs) (countLines qs cs)
+pub count-agree : (x m : List ℕ) (ps qs : List (List ℕ)) (ws bs cs : List Anew) → Agree x m ws bs cs → Agree x m (countLines ps ws) (countLines qs bs) (countLines qs cs)
 count-agree x m ps qs ws bs cs g =
     (refl, refl, refl, (refl, refl, refl, (refl, refl, refl, (refl, refl, refl, (refl, refl, refl, (refl, refl, refl, (refl, refl, refl, (refl, refl, refl, (refl, refl, refl, (refl, refl, refl, g))))))))))
 
-part-same : (a b : List ℕ) (i n : ℕ) → ((j : ℕ) → j < n → getD a (i + j) 0 ≡ getD b (i + j) 0) → part a i n ≡ part b i n
+pub part-same : (a b : List ℕ) (i n : ℕ) → ((j : ℕ) → j < n → getD a (i + j) 0 ≡ getD b (i + j) 0) → part a i n ≡ part b i n
 part-same a b i zero f = refl
 part-same a b i (suc n) f =
     let z : i + 0 ≡ i = omega arith in

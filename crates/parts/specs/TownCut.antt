@@ -2,7 +2,7 @@
 -- SUBSETTED_PRODUCT (`T`) set anew; the SPHR, auxiliary records and chosen MDRs byte for byte in their order; one IPR for each class, group and subclass
 -- present in classes 4..8"). The records are said by `cutParts`, the lines of the main header by `cutValues`; all else of the header is kept
 -- (`Rewritten`). Assumes nothing.
-use Prim.Native.Nat.{ℕ}
+use Prim.Native.Nat.{ℕ, _<_}
 use mathlib.Core.Path.{_≡_}
 use mathlib.Core.List.{List}
 use Rattle.demands.specs.Product.{Meets}
@@ -21,3 +21,11 @@ pub record IsCut (a : List ℕ) (w : Window) (b : List ℕ) : Type 0 where
   pub header : List ℕ
   pub lines : Rewritten (mainOf a) header (cutValues (mainOf a) w (recordsAt a (product .list)))
   pub whole : b ≡ bytesOf header (cutRecords a w product)
+
+-- the lines that a cut does not name: all but PRODUCT_NAME, SENSING_START, SENSING_END, ACTUAL_PRODUCT_SIZE and those from TOTAL_RECORDS on
+pub record Unnamed (k : ℕ) : Type 0 where
+  pub low : k < 55
+  pub name : k ≡ 0 → ⊥
+  pub start : k ≡ 10 → ⊥
+  pub end : k ≡ 11 → ⊥
+  pub size : k ≡ 28 → ⊥

@@ -6,3 +6,4 @@ pub mod KeepLaws
 pub mod SurveyLaws
 pub mod LineLaws
 pub mod PlanLaws
+pub mod Laws

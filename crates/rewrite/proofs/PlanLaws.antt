@@ -360,7 +360,7 @@ module _ {a : List ℕ} {w : Window} {table totals : List ℕ} {at : ℕ} {v : S
         }
 
 -- ---- THE ANSWERS
-same-records : {a : List ℕ} (w : Window) (t u : Meets a) → cutRecords a w t ≡ cutRecords a w u
+pub same-records : {a : List ℕ} (w : Window) (t u : Meets a) → cutRecords a w t ≡ cutRecords a w u
 same-records {a} w t u = ap (λ (l : List ℕ). cutParts (mainOf a) w (recordsAt a l)) (one-list t u)
 
 pub holds-all : {a : List ℕ} (w : Window) (t : Meets a) (n k : ℕ) → n ≡ cutSize a w t → n ≤ 2147483647 → k ≡ suc (length (cutRecords a w t)) → k ≤ 999999 → Holdable (cutRecords a w t)

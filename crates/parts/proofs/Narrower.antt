@@ -146,17 +146,28 @@ module _ {m m′ m″ : List ℕ} {rs : List (List ℕ)} {w v : Window} (b : Bui
       ∙ renamed-twice (valueOf m 0) (sensingStart m v rs) (sensingEnd m v rs) (name-long b) (sensingStart m w rs) (sensingEnd m w rs)
 
   lines-agree : Agree m′ m (otherLines m v rs) (otherLines m′ w (cutParts m v rs)) (otherLines m w rs)
-  lines-agree =
-      (refl, refl, same-name,
-      (refl, refl, ap (λ (g : General). spelling m′ 10 (time g)) same-start,
-      (refl, refl, ap (λ (g : General). spelling m′ 11 (time g)) same-end,
-      (refl, refl, refl, (refl, refl, refl, (refl, refl, refl, (refl, refl, refl, (refl, refl, refl, (refl, refl, refl, (refl, refl, refl, (refl, refl, refl, tt)))))))))))
+  lines-agree = (
+    refl,
+    refl,
+    same-name,
+    (
+      refl,
+      refl,
+      ap (λ (g : General). spelling m′ 10 (time g)) same-start,
+      (
+        refl,
+        refl,
+        ap (λ (g : General). spelling m′ 11 (time g)) same-end,
+        (refl, refl, refl, (refl, refl, refl, (refl, refl, refl, (refl, refl, refl, (refl, refl, refl, (refl, refl, refl, (refl, refl, refl, (refl, refl, refl, tt)))))))),
+      ),
+    ),
+  )
 
   narrower-lines : Rewritten m m″ (cutValues m w rs)
   narrower-lines =
       let q = cutParts m w rs in
       let z : Rewritten m′ m″ (valuesOf (countLines q (otherLines m′ w (cutParts m v rs)))) =
-          subst (λ (l : List (List ℕ)). Rewritten m′ m″ (valuesOf (countLines l (otherLines m′ w (cutParts m v rs))))) narrower-records y in
+      subst (λ (l : List (List ℕ)). Rewritten m′ m″ (valuesOf (countLines l (otherLines m′ w (cutParts m v rs))))) narrower-records y in
       let g = count-agree m′ m (cutParts m v rs) q (otherLines m v rs) (otherLines m′ w (cutParts m v rs)) (otherLines m w rs) lines-agree in
       record {
         long = z .long;
@@ -179,10 +190,10 @@ cut-of-cut {a} {b} {c} {w} {v} byte x k i y =
     let e : mainOf b ≡ h = ap mainOf (x .whole) ∙ main-back h ps whole in
     let d : recordsAt b (y .product .list) ≡ ps = records-back (x .whole) whole (y .product) in
     let l : Rewritten h (y .header) (cutValues h w ps) =
-        subst (λ (z : List ℕ). Rewritten z (y .header) (cutValues z w ps)) e
-        (subst (λ (z : List (List ℕ)). Rewritten (mainOf b) (y .header) (cutValues (mainOf b) w z)) d (y .lines)) in
+    subst (λ (z : List ℕ). Rewritten z (y .header) (cutValues z w ps)) e
+    (subst (λ (z : List (List ℕ)). Rewritten (mainOf b) (y .header) (cutValues (mainOf b) w z)) d (y .lines)) in
     let s : cutRecords b w (y .product) ≡ cutParts (mainOf a) w rs =
-        ap (cutParts (mainOf b) w) d ∙ ap (λ (z : List ℕ). cutParts z w ps) e ∙ narrower-records built i (x .lines) l in
+    ap (cutParts (mainOf b) w) d ∙ ap (λ (z : List ℕ). cutParts z w ps) e ∙ narrower-records built i (x .lines) l in
     record {
       product = x .product;
       header = y .header;
@@ -195,7 +206,7 @@ pub one-cut : {a b c : List ℕ} {w : Window} → IsCut a w b → IsCut a w c �
 one-cut {a} {b} {c} {w} x y =
     let l = one-list (y .product) (x .product) in
     let r : Rewritten (mainOf a) (y .header) (cutValues (mainOf a) w (recordsAt a (x .product .list))) =
-        subst (λ (z : List ℕ). Rewritten (mainOf a) (y .header) (cutValues (mainOf a) w (recordsAt a z))) l (y .lines) in
+    subst (λ (z : List ℕ). Rewritten (mainOf a) (y .header) (cutValues (mainOf a) w (recordsAt a z))) l (y .lines) in
     x .whole
     ∙ ap (λ (z : List ℕ). bytesOf z (cutRecords a w (x .product))) (one-rewritten (x .lines) r)
     ∙ ap (λ (z : List ℕ). bytesOf (y .header) (cutParts (mainOf a) w (recordsAt a z))) (sym l)

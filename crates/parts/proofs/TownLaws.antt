@@ -29,10 +29,29 @@ use Rattle.parts.proofs.Narrower.{cut-of-cut, one-cut}
 keeps : (m : List ℕ) (w : Window) (rs : List (List ℕ)) (k : ℕ) → Unnamed k → cutValues m w rs k ≡ kept
 keeps m w rs k u =
     let far : (n : ℕ) → 55 ≤ n → k ≡ n → ⊥ = λ n h e. omega (arith, u .low) in
-    rw (ne-eqb k 28 (u .size), ne-eqb k 55 (far 55 (omega arith)), ne-eqb k 56 (far 56 (omega arith)), ne-eqb k 57 (far 57 (omega arith)), ne-eqb k 58 (far 58 (omega arith)),
-    ne-eqb k 59 (far 59 (omega arith)), ne-eqb k 60 (far 60 (omega arith)), ne-eqb k 61 (far 61 (omega arith)), ne-eqb k 62 (far 62 (omega arith)), ne-eqb k 63 (far 63 (omega arith)),
-    ne-eqb k 0 (u .name), ne-eqb k 10 (u .start), ne-eqb k 11 (u .end), ne-eqb k 64 (far 64 (omega arith)), ne-eqb k 65 (far 65 (omega arith)), ne-eqb k 66 (far 66 (omega arith)),
-    ne-eqb k 67 (far 67 (omega arith)), ne-eqb k 68 (far 68 (omega arith)), ne-eqb k 69 (far 69 (omega arith)), ne-eqb k 70 (far 70 (omega arith)), ne-eqb k 71 (far 71 (omega arith)))
+    rw (
+      ne-eqb k 28 (u .size),
+      ne-eqb k 55 (far 55 (omega arith)),
+      ne-eqb k 56 (far 56 (omega arith)),
+      ne-eqb k 57 (far 57 (omega arith)),
+      ne-eqb k 58 (far 58 (omega arith)),
+      ne-eqb k 59 (far 59 (omega arith)),
+      ne-eqb k 60 (far 60 (omega arith)),
+      ne-eqb k 61 (far 61 (omega arith)),
+      ne-eqb k 62 (far 62 (omega arith)),
+      ne-eqb k 63 (far 63 (omega arith)),
+      ne-eqb k 0 (u .name),
+      ne-eqb k 10 (u .start),
+      ne-eqb k 11 (u .end),
+      ne-eqb k 64 (far 64 (omega arith)),
+      ne-eqb k 65 (far 65 (omega arith)),
+      ne-eqb k 66 (far 66 (omega arith)),
+      ne-eqb k 67 (far 67 (omega arith)),
+      ne-eqb k 68 (far 68 (omega arith)),
+      ne-eqb k 69 (far 69 (omega arith)),
+      ne-eqb k 70 (far 70 (omega arith)),
+      ne-eqb k 71 (far 71 (omega arith)),
+    )
 
 module _ {a b : List ℕ} {w : Window} (byte : Bytes a) (c : IsCut a w b) (h : Holdable (cutRecords a w (c .product))) where
   built : Built (c .header) (cutRecords a w (c .product))

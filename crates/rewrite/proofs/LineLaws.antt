@@ -51,8 +51,7 @@ adds-on h h′ h″ new more f g m l r = rw (append-assoc more new l) (g m (new 
 -- ---- the stamp: the long text without the digits of its millisecond
 first-digits :
     (t u : Moment) (x : List ℕ) → t .date ≡ u .date → t .hour ≡ u .hour → t .minute ≡ u .minute → t .second ≡ u .second → x ≡ putMoment 17 (replicate 18 0) t
-    → getD x 0 0 ∷ getD x 1 0 ∷ getD x 2 0 ∷ getD x 3 0 ∷ getD x 4 0 ∷ getD x 5 0 ∷ getD x 6 0 ∷ getD x 7 0 ∷ getD x 8 0 ∷ getD x 9 0 ∷ getD x 10 0 ∷ getD x 11 0 ∷ getD x 12 0 ∷ getD x 13 0 ∷ 90 ∷ []
-    ≡ putMoment 14 (replicate 15 0) u
+    → sets (replicate 15 90) 0 (take 14 (drop 0 x)) ≡ putMoment 14 (replicate 15 0) u
 unfolding putMoment putDigits
 first-digits t u x d h m s e = rw (e, d, h, m, s) refl
 
@@ -80,8 +79,7 @@ module _ (day ms : ℕ) where
 
 pub stamp-is :
     (t : Time) (x : List ℕ) → x ≡ putGeneral 17 (replicate 18 0) (generalOf t)
-    → getD x 0 0 ∷ getD x 1 0 ∷ getD x 2 0 ∷ getD x 3 0 ∷ getD x 4 0 ∷ getD x 5 0 ∷ getD x 6 0 ∷ getD x 7 0 ∷ getD x 8 0 ∷ getD x 9 0 ∷ getD x 10 0 ∷ getD x 11 0 ∷ getD x 12 0 ∷ getD x 13 0 ∷ 90 ∷ []
-    ≡ stamp (toSecond t)
+    → sets (replicate 15 90) 0 (take 14 (drop 0 x)) ≡ stamp (toSecond t)
 unfolding putX
 stamp-is T.Undefined x e = rw e refl
 stamp-is (T.At day ms) x e =

@@ -53,25 +53,11 @@ fn stamp_of(time: Time) -> [u8; 15]
     requires { ⌜ isTime time ≡ true ⌝ }
     ensures { λ r. ⌜ r ≡ stamp (toSecond time) ⌝ }
 {
-    let mut t = [0u8; 18];
-    meter::general::time_text(&mut t, time);
-    [
-        t[0],
-        t[1],
-        t[2],
-        t[3],
-        t[4],
-        t[5],
-        t[6],
-        t[7],
-        t[8],
-        t[9],
-        t[10],
-        t[11],
-        t[12],
-        t[13],
-        90,
-    ]
+    let mut long = [0u8; 18];
+    meter::general::time_text(&mut long, time);
+    let mut stamp = [90u8; 15];
+    copy(&long, 0, 14, &mut stamp, 0);
+    stamp
 }
 
 // "The degraded counts and the three durations become `x`", "SUBSETTED_PRODUCT (`T`)".

@@ -1,3 +1,4 @@
+-- `rewrite::kinds::group_at` meets its contract: by the tests that led to each group. Assumes nothing.
 use borrow.Author.Needs.{needs}
 use native.Mathlib.Omega.{arith}
 use Prim.Native.Nat.{_%_}
@@ -5,23 +6,16 @@ use mathlib.Core.Path.{_≡_, sym, _∙_}
 use Rattle.rewrite.proofs.EmitLaws.{group-low, group-15, group-99}
 use Rattle.rewrite.proofs.kinds.group_at.Statement.{statement}
 use Rattle.rewrite.proofs.kinds.group_at.Tie as tie
-use Rattle.rewrite.proofs.kinds.group_at.Reads as reads
-use Rattle.rewrite.proofs.kinds.group_at.Lts as lts
-use Rattle.rewrite.proofs.kinds.byte.Reads as byte-reads
 
--- src/lib.rt:165:9
 byte-requires : tie.Need-byte-requires
 byte-requires c κs = search needs
 
--- src/lib.rt:165:9
 returns : tie.Need-returns
 returns c = let a = c .before .before .args in c .byte .ensures ∙ (let e : a .x % 256 ≡ a .x = omega arith in e) ∙ sym (group-low (a .x) (c .before .if1 .taken))
 
--- src/lib.rt:168:9
 returns-2 : tie.Need-returns-2
 returns-2 c = sym (group-15 (c .before .before .args .x) (c .if2 .taken))
 
--- src/lib.rt:160:1
 returns-3 : tie.Need-returns-3
 returns-3 c = sym (group-99 (c .before .before .args .x) (c .before .if1 .left) (c .if2 .left))
 

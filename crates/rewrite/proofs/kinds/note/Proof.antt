@@ -1,3 +1,4 @@
+-- `rewrite::kinds::note` meets its contract: an empty place is set, another is kept. Assumes nothing.
 use borrow.Author.Needs.{needs}
 use Prim.Native.Nat.{ℕ, suc, _+_}
 use native.Mathlib.Omega.{arith}
@@ -6,45 +7,34 @@ use borrow.Author.Tests.{eq-eqb, ne-eqb}
 use lib.ListN.{getD, set}
 use Rattle.rewrite.proofs.kinds.note.Statement.{statement}
 use Rattle.rewrite.proofs.kinds.note.Tie as tie
-use Rattle.rewrite.proofs.kinds.note.Reads as reads
-use Rattle.rewrite.proofs.kinds.note.Lts as lts
 
--- src/lib.rt:112:8
 mul-if1 : tie.Need-mul-if1
 mul-if1 c = search needs
 
--- src/lib.rt:112:8
 slice-read-if1 : tie.Need-slice-read-if1
 slice-read-if1 c = search needs
 
--- src/lib.rt:113:21
 add-table : tie.Need-add-table
 add-table c = search needs
 
--- src/lib.rt:113:20
 cast-table : tie.Need-cast-table
 cast-table c = search needs
 
--- src/lib.rt:113:9
 mul-table : tie.Need-mul-table
 mul-table c = search needs
 
--- src/lib.rt:113:9
 slice-write-table : tie.Need-slice-write-table
 slice-write-table c = search needs
 
--- src/lib.rt:108:1
 same-length : tie.Need-same-length
 same-length c = search needs
 
--- src/lib.rt:108:1
 returns : tie.Need-returns
 returns c =
     let a = c .before .before .args in
     let e : a .n + 1 ≡ suc (a .n) = omega arith in
     rw (eq-eqb (getD (a .table .now) (a .j) 0) 0 (c .if1 .taken)) (ap (set (a .table .now) (a .j)) e)
 
--- src/lib.rt:108:1
 returns-2 : tie.Need-returns-2
 returns-2 c = let a = c .before .before .args in rw (ne-eqb (getD (a .table .now) (a .j) 0) 0 (c .if1 .left)) refl
 

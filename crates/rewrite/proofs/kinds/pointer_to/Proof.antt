@@ -1,3 +1,4 @@
+-- `rewrite::kinds::pointer_to` meets its contract: its 27 bytes, one by one. Assumes nothing.
 use borrow.Author.Needs.{needs}
 use native.Mathlib.Omega.{arith}
 use Rattle.parts.specs.Kinds.{kindAt}
@@ -5,92 +6,67 @@ use mathlib.Core.Path.{_≡_, refl, sym, ap, _∙_}
 use Rattle.rewrite.proofs.EmitLaws.{kind-class, kind-group, kind-subclass, pointer-list}
 use Rattle.rewrite.proofs.kinds.pointer_to.Statement.{statement}
 use Rattle.rewrite.proofs.kinds.pointer_to.Tie as tie
-use Rattle.rewrite.proofs.kinds.pointer_to.Reads as reads
-use Rattle.rewrite.proofs.kinds.pointer_to.Lts as lts
-use Rattle.rewrite.proofs.kinds.byte.Reads as byte-reads
-use Rattle.rewrite.proofs.kinds.group_at.Reads as group-at-reads
 
--- src/lib.rt:178:22
 add-byte : tie.Need-add-byte
 add-byte c = search needs
 
--- src/lib.rt:178:9
 byte-requires : tie.Need-byte-requires
 byte-requires c κs = search needs
 
--- src/lib.rt:179:9
 group-at-requires : tie.Need-group-at-requires
 group-at-requires c κs = search needs
 
--- src/lib.rt:180:9
 byte-requires-2 : tie.Need-byte-requires-2
 byte-requires-2 c κs = search needs
 
--- src/lib.rt:181:9
 byte-requires-3 : tie.Need-byte-requires-3
 byte-requires-3 c κs = search needs
 
--- src/lib.rt:182:9
 byte-requires-4 : tie.Need-byte-requires-4
 byte-requires-4 c κs = search needs
 
--- src/lib.rt:183:9
 byte-requires-5 : tie.Need-byte-requires-5
 byte-requires-5 c κs = search needs
 
--- src/lib.rt:184:9
 byte-requires-6 : tie.Need-byte-requires-6
 byte-requires-6 c κs = search needs
 
--- src/lib.rt:186:34
 shared-slice-read-t15 : tie.Need-shared-slice-read-t15
 shared-slice-read-t15 c = search needs
 
--- src/lib.rt:186:40
 shared-slice-read-t17 : tie.Need-shared-slice-read-t17
 shared-slice-read-t17 c = search needs
 
--- src/lib.rt:186:46
 shared-slice-read-t19 : tie.Need-shared-slice-read-t19
 shared-slice-read-t19 c = search needs
 
--- src/lib.rt:186:53
 shared-slice-read-t21 : tie.Need-shared-slice-read-t21
 shared-slice-read-t21 c = search needs
 
--- src/lib.rt:186:60
 shared-slice-read-t23 : tie.Need-shared-slice-read-t23
 shared-slice-read-t23 c = search needs
 
--- src/lib.rt:186:67
 shared-slice-read-t25 : tie.Need-shared-slice-read-t25
 shared-slice-read-t25 c = search needs
 
--- src/lib.rt:186:74
 shared-slice-read-t27 : tie.Need-shared-slice-read-t27
 shared-slice-read-t27 c = search needs
 
--- src/lib.rt:186:81
 shared-slice-read-t29 : tie.Need-shared-slice-read-t29
 shared-slice-read-t29 c = search needs
 
--- src/lib.rt:186:88
 shared-slice-read-t31 : tie.Need-shared-slice-read-t31
 shared-slice-read-t31 c = search needs
 
--- src/lib.rt:186:95
 shared-slice-read-t33 : tie.Need-shared-slice-read-t33
 shared-slice-read-t33 c = search needs
 
--- src/lib.rt:186:102
 shared-slice-read-t35 : tie.Need-shared-slice-read-t35
 shared-slice-read-t35 c = search needs
 
--- src/lib.rt:186:109
 shared-slice-read-t37 : tie.Need-shared-slice-read-t37
 shared-slice-read-t37 c = search needs
 
--- src/lib.rt:174:1
 returns : tie.Need-returns
 returns c =
     let z = c .before .before .before .before .before .before .before .before .before .before .before .before in

@@ -1,3 +1,4 @@
+-- `rewrite::kinds::put_place` meets its contract: an empty place has no text, another the pointer of its kind. Assumes nothing.
 use borrow.Author.Needs.{needs}
 use Prim.Native.Nat.{ℕ, _+_, _-_}
 use native.Mathlib.Omega.{arith}
@@ -11,13 +12,7 @@ use Rattle.rewrite.specs.Emitting.{placeText}
 use Rattle.rewrite.proofs.EmitLaws.{ipr-long, ipr-whole, place-some}
 use Rattle.rewrite.proofs.kinds.put_place.Statement.{statement}
 use Rattle.rewrite.proofs.kinds.put_place.Tie as tie
-use Rattle.rewrite.proofs.kinds.put_place.Reads as reads
-use Rattle.rewrite.proofs.kinds.put_place.Lts as lts
-use Rattle.rewrite.proofs.copy.copy.Reads as copy-reads
-use Rattle.rewrite.proofs.kinds.pointer_to.Reads as pointer-to-reads
-use Rattle.rewrite.proofs.kinds.wide_word.Reads as wide-word-reads
 
--- src/lib.rt:196:24
 -- what the pointer's place holds
 held : (c : tie.Else1) → placeText (c .before .before .before .before .before .before .args .s .now) (c .before .before .before .before .before .before .args .base) (c .before .before .before .before .before .before .args .table .now) (c .before .before .before .before .before .before .args .j) ≡ iprTo (c .before .before .before .before .before .before .args .s .now) (kindAt (c .before .before .before .before .before .before .args .j)) (c .before .before .before .before .before .before .args .base + (c .before .wide-word .result - 1))
 held c =
@@ -28,15 +23,12 @@ held c =
 mul-wide-word : tie.Need-mul-wide-word
 mul-wide-word c = search needs
 
--- src/lib.rt:196:24
 shared-slice-read-wide-word : tie.Need-shared-slice-read-wide-word
 shared-slice-read-wide-word c = search needs
 
--- src/lib.rt:196:9
 wide-word-requires : tie.Need-wide-word-requires
 wide-word-requires c κs = search needs
 
--- src/lib.rt:198:9
 returns : tie.Need-returns
 returns c =
     let w = c .before in
@@ -45,23 +37,18 @@ returns c =
     let z : getD (a .table .now) (a .j) 0 ≡ 0 = sym (w .wide-word .ensures .0) ∙ c .if1 .taken in
     rw (eq-eqb (getD (a .table .now) (a .j) 0) 0 z) record { next = omega arith; put = refl }
 
--- src/lib.rt:200:44
 sub-pointer-to : tie.Need-sub-pointer-to
 sub-pointer-to c = search needs
 
--- src/lib.rt:200:36
 add-pointer-to : tie.Need-add-pointer-to
 add-pointer-to c = omega (arith, c .before .wide-word .ensures .1, c .before .before .before .before .before .before .pre .low)
 
--- src/lib.rt:200:19
 pointer-to-requires : tie.Need-pointer-to-requires
 pointer-to-requires c κs = search needs
 
--- src/lib.rt:201:10
 slice-aggregate-copy : tie.Need-slice-aggregate-copy
 slice-aggregate-copy c = search needs
 
--- src/lib.rt:201:5
 copy-requires : tie.Need-copy-requires
 copy-requires c κs =
     let p = c .before .before in
@@ -72,15 +59,12 @@ copy-requires c κs =
     let t = a .base + (e .before .wide-word .result - 1) in
     (omega (arith, ap length (p .pointer-to .ensures), ipr-long (a .s .now) k t), omega (arith, b .pre .fits, ap length (held e), ipr-long (a .s .now) k t))
 
--- src/lib.rt:202:5
 add-result : tie.Need-add-result
 add-result c = search needs
 
--- src/lib.rt:192:1
 same-length : tie.Need-same-length
 same-length c = search needs
 
--- src/lib.rt:192:1
 returns-2 : tie.Need-returns-2
 returns-2 c =
     let q = c .before .before in

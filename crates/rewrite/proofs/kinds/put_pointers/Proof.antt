@@ -1,11 +1,10 @@
+-- `rewrite::kinds::put_pointers` meets its contract: the pointers of the places that are left, put into the room as it is, give all of them. Assumes
+-- nothing.
 use Prim.Native.Nat.{_-_}
 use native.Mathlib.Omega.{arith}
 use Rattle.rewrite.proofs.EmitLaws.{Emitting, emit-first, emit-place, emit-next, emit-last}
 use Rattle.rewrite.proofs.kinds.put_pointers.Statement.{statement}
 use Rattle.rewrite.proofs.kinds.put_pointers.Tie as tie
-use Rattle.rewrite.proofs.kinds.put_pointers.Reads as reads
-use Rattle.rewrite.proofs.kinds.put_pointers.Lts as lts
-use Rattle.rewrite.proofs.kinds.put_place.Reads as put-place-reads
 
 abbrev Inv-loop : tie.InvT-loop
 Inv-loop s table base room₀ p to₀ j₀ room to j = Emitting s base table room₀ p room to j
@@ -13,31 +12,24 @@ Inv-loop s table base room₀ p to₀ j₀ room to j = Emitting s base table roo
 abbrev μ-loop : tie.MeasureT-loop
 μ-loop s table base room₀ p to₀ j₀ room to j = 20480 - j
 
--- src/lib.rt:212:5
 loop-holds : tie.Need-loop-holds Inv-loop μ-loop
 loop-holds c = emit-first (c .before .before .before .pre)
 
--- src/lib.rt:213:9
 put-place-requires : tie.Need-put-place-requires Inv-loop μ-loop
 put-place-requires c κs = emit-place (c .before .before .loop .inv) (c .before .loop-test .taken)
 
--- src/lib.rt:214:9
 add-j : tie.Need-add-j Inv-loop μ-loop
 add-j c = omega arith
 
--- src/lib.rt:212:5
 loop-less : tie.Need-loop-less Inv-loop μ-loop
 loop-less c = omega arith
 
--- src/lib.rt:212:5
 loop-again : tie.Need-loop-again Inv-loop μ-loop
 loop-again c = let i = c .before .before .before .before in emit-next (i .before .loop .inv) (i .loop-test .taken) (c .before .before .put-place .ensures)
 
--- src/lib.rt:206:1
 same-length : tie.Need-same-length Inv-loop μ-loop
 same-length c = c .before .loop .inv .long
 
--- src/lib.rt:206:1
 returns : tie.Need-returns Inv-loop μ-loop
 returns c = emit-last (c .before .loop .inv) (c .loop-test .left)
 

@@ -1,3 +1,4 @@
+-- `rewrite::kinds::slot` meets its contract: the place of a class, a column of groups and a subclass, by the group. Assumes nothing.
 use borrow.Author.Needs.{needs}
 use native.Mathlib.Omega.{arith}
 use mathlib.Core.Path.{_≡_, sym, _∙_}
@@ -5,43 +6,31 @@ use Rattle.parts.proofs.KindLaws.{low-group}
 use Rattle.rewrite.proofs.TableLaws.{slot-is, high-group, at-fifteen, at-last}
 use Rattle.rewrite.proofs.kinds.slot.Statement.{statement}
 use Rattle.rewrite.proofs.kinds.slot.Tie as tie
-use Rattle.rewrite.proofs.kinds.slot.Reads as reads
-use Rattle.rewrite.proofs.kinds.slot.Lts as lts
-use Rattle.rewrite.proofs.kinds.wide.Reads as wide-reads
 
--- src/lib.rt:97:16
 wide-requires : tie.Need-wide-requires
 wide-requires c κs = search needs
 
--- src/lib.rt:97:16
 sub-row : tie.Need-sub-row
 sub-row c = search needs
 
--- src/lib.rt:97:15
 mul-row : tie.Need-mul-row
 mul-row c = search needs
 
--- src/lib.rt:99:23
 wide-requires-2 : tie.Need-wide-requires-2
 wide-requires-2 c κs = search needs
 
--- src/lib.rt:99:17
 add-result : tie.Need-add-result
 add-result c = search needs
 
--- src/lib.rt:99:16
 mul-result : tie.Need-mul-result
 mul-result c = search needs
 
--- src/lib.rt:99:44
 wide-requires-3 : tie.Need-wide-requires-3
 wide-requires-3 c κs = search needs
 
--- src/lib.rt:99:16
 add-result-2 : tie.Need-add-result-2
 add-result-2 c = search needs
 
--- src/lib.rt:99:9
 returns : tie.Need-returns
 returns c =
     let b = c .before .before .before .before in
@@ -49,46 +38,36 @@ returns c =
     let h = c .before .before .if1 .taken in
     slot-is (a .class) (a .group) (a .subclass) (a .group) _ (b .pre .0) (b .pre .1) (omega arith) (omega arith) (low-group (a .group) (omega arith)) (omega arith)
 
--- src/lib.rt:102:17
 add-result-3 : tie.Need-add-result-3
 add-result-3 c = search needs
 
--- src/lib.rt:102:16
 mul-result-2 : tie.Need-mul-result-2
 mul-result-2 c = search needs
 
--- src/lib.rt:102:35
 wide-requires-4 : tie.Need-wide-requires-4
 wide-requires-4 c κs = search needs
 
--- src/lib.rt:102:16
 add-result-4 : tie.Need-add-result-4
 add-result-4 c = search needs
 
--- src/lib.rt:102:9
 returns-2 : tie.Need-returns-2
 returns-2 c =
     let b = c .before .before .before .before in
     let a = b .args in
     slot-is (a .class) 14 (a .subclass) (a .group) _ (b .pre .0) (b .pre .1) (omega arith) (omega arith) (at-fifteen ∙ sym (c .before .if2 .taken)) (omega arith)
 
--- src/lib.rt:104:6
 add-result-5 : tie.Need-add-result-5
 add-result-5 c = search needs
 
--- src/lib.rt:104:5
 mul-result-3 : tie.Need-mul-result-3
 mul-result-3 c = search needs
 
--- src/lib.rt:104:24
 wide-requires-5 : tie.Need-wide-requires-5
 wide-requires-5 c κs = search needs
 
--- src/lib.rt:104:5
 add-result-6 : tie.Need-add-result-6
 add-result-6 c = search needs
 
--- src/lib.rt:93:1
 returns-3 : tie.Need-returns-3
 returns-3 c =
     let b = c .before .before .before .before in

@@ -11,50 +11,20 @@ slice-aggregate-time-text c = search needs
 time-text-requires : tie.Need-time-text-requires
 time-text-requires c κs = search needs
 
-array-read-t8 : tie.Need-array-read-t8
-array-read-t8 c = search needs
+slice-aggregate-copy : tie.Need-slice-aggregate-copy
+slice-aggregate-copy c = search needs
 
-array-read-t11 : tie.Need-array-read-t11
-array-read-t11 c = search needs
+slice-aggregate-copy-2 : tie.Need-slice-aggregate-copy-2
+slice-aggregate-copy-2 c = search needs
 
-array-read-t14 : tie.Need-array-read-t14
-array-read-t14 c = search needs
-
-array-read-t17 : tie.Need-array-read-t17
-array-read-t17 c = search needs
-
-array-read-t20 : tie.Need-array-read-t20
-array-read-t20 c = search needs
-
-array-read-t23 : tie.Need-array-read-t23
-array-read-t23 c = search needs
-
-array-read-t26 : tie.Need-array-read-t26
-array-read-t26 c = search needs
-
-array-read-t29 : tie.Need-array-read-t29
-array-read-t29 c = search needs
-
-array-read-t32 : tie.Need-array-read-t32
-array-read-t32 c = search needs
-
-array-read-t35 : tie.Need-array-read-t35
-array-read-t35 c = search needs
-
-array-read-t38 : tie.Need-array-read-t38
-array-read-t38 c = search needs
-
-array-read-t41 : tie.Need-array-read-t41
-array-read-t41 c = search needs
-
-array-read-t44 : tie.Need-array-read-t44
-array-read-t44 c = search needs
-
-array-read-t47 : tie.Need-array-read-t47
-array-read-t47 c = search needs
+copy-requires : tie.Need-copy-requires
+copy-requires c κs = search needs
 
 returns : tie.Need-returns
-returns c = let b = c .before .before .before in stamp-is (b .args .time) (c .before .time-text .last .0) (c .before .time-text .ensures .1 ∙ text-wrote (b .args .time) (b .pre))
+returns c =
+    let t = c .before .before .before .before .before in
+    let b = t .before .before in
+    c .before .copy .ensures ∙ stamp-is (b .args .time) (t .time-text .last .0) (t .time-text .ensures .1 ∙ text-wrote (b .args .time) (b .pre))
 
 pub stamp-of-spec : {M : Type 1} → statement M
 stamp-of-spec =
@@ -62,18 +32,7 @@ stamp-of-spec =
     (tie.spec
     slice-aggregate-time-text
     time-text-requires
-    array-read-t8
-    array-read-t11
-    array-read-t14
-    array-read-t17
-    array-read-t20
-    array-read-t23
-    array-read-t26
-    array-read-t29
-    array-read-t32
-    array-read-t35
-    array-read-t38
-    array-read-t41
-    array-read-t44
-    array-read-t47
+    slice-aggregate-copy
+    slice-aggregate-copy-2
+    copy-requires
     returns)

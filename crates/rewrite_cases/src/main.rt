@@ -1,0 +1,108 @@
+// Cuts each product of standard input to its window, into rooms of the sizes that are asked, and prints the answers; and `lost` where a
+// room does not hold what the case asks for. A case is 26 bytes, the product, what is to be written and the rooms' sizes
+// (tools/rewrite-cases says which and writes them).
+use cases::input::byte;
+use cases::input::fitting;
+use cases::input::part;
+use cases::input::read;
+use cases::input::read_part;
+use cases::input::word;
+use cases::print::number;
+use cases::print::refusal;
+use cases::print::say;
+use libc::STDIN_FILENO;
+use meter::integer::Written;
+use meter::time::Time;
+
+const FILL: u8 = 0xaa;
+
+// The room starts with `text`, and the rest is as it came.
+fn holds(room: &[u8], text: &[u8]) -> bool {
+    let mut i: usize = 0;
+    while i < room.len() {
+        let due = if i < text.len() { text[i] } else { FILL };
+        if room[i] != due {
+            return false;
+        }
+        i += 1;
+    }
+    text.len() <= room.len()
+}
+
+fn time_of(defined: u8, day: u64, milli: u64) -> Time {
+    if defined == 0 {
+        return Time::Undefined;
+    }
+    Time::At {
+        day: (day % 65536) as u16,
+        milli: (milli % 0x1_0000_0000) as u32,
+    }
+}
+
+// How many bytes are written.
+fn print_answer(answer: Written) -> usize {
+    match answer {
+        Written::Bytes(n) => {
+            say(b" written");
+            number(n as u64);
+            n
+        }
+        Written::Refused(r) => {
+            refusal(r);
+            0
+        }
+    }
+}
+
+fn cut_into(head: &[u8], bytes: &[u8], text: &[u8], room: &mut [u8]) {
+    let first = time_of(byte(head, 12), word(head, 13, 2), word(head, 15, 4));
+    let last = time_of(byte(head, 19), word(head, 20, 2), word(head, 22, 4));
+    let n = print_answer(rewrite::cut::cut(bytes, first, last, room));
+    if !holds(room, part(text, 0, n)) {
+        say(b" lost");
+    }
+    say(b"\n");
+}
+
+// The next room.
+fn run_room(head: &[u8], bytes: &[u8], text: &[u8]) {
+    let mut size = [0u8; 4];
+    if !read(STDIN_FILENO, &mut size) {
+        return;
+    }
+    let mut room = [FILL; 8192];
+    let m = fitting(word(&size, 0, 4) as usize, &room);
+    cut_into(head, bytes, text, &mut room[..m]);
+}
+
+fn run_rooms(head: &[u8], bytes: &[u8], text: &[u8]) {
+    let rooms = word(head, 8, 4);
+    let mut i: u64 = 0;
+    while i < rooms {
+        run_room(head, bytes, text);
+        i += 1;
+    }
+}
+
+fn run_case(head: &[u8], bytes: &mut [u8], text: &mut [u8]) {
+    let n = read_part(STDIN_FILENO, bytes, word(head, 0, 4) as usize);
+    let t = read_part(STDIN_FILENO, text, word(head, 4, 4) as usize);
+    run_rooms(head, &bytes[..n], &text[..t]);
+}
+
+fn run_next(head: &[u8]) {
+    let mut bytes = [0u8; 8192];
+    let mut text = [0u8; 8192];
+    run_case(head, &mut bytes, &mut text);
+}
+
+fn main() {
+    let most: usize = 100000;
+    for _ in 0..most {
+        let mut head = [0u8; 26];
+        if !read(STDIN_FILENO, &mut head) {
+            return;
+        }
+        run_next(&head);
+    }
+}

@@ -123,7 +123,8 @@ fn put_one(
     room: &mut [u8],
     p: usize,
 ) -> usize
-    requires { ⌜ Lead (now s) at × (at + size ≤ length (now s)) × (p + length (textAt (window first last) (now s) at size) ≤ length (now room)) ⌝ }
+    requires { ⌜ Lead (now s) at × (at + size ≤ length (now s))
+        × (p + length (textAt (window first last) (now s) at size) ≤ length (now room)) ⌝ }
     ensures { λ r. ⌜ PutsOne (window first last) (now (s .entry)) at size (now (room .entry)) p r (now (room .exit)) ⌝ }
 {
     if !is_kept(s, first, last, at) {

@@ -28,7 +28,7 @@ fn cut_in(bytes: &[u8], window: [Option<Time>; 2], room: usize) -> (Written, Vec
 /// The answer and the whole room, and the product kept; raw, a part of a time that is undefined is not looked at.
 #[cfg(feature = "boundary")]
 fn same_at_boundary(bytes: &[u8], window: [Option<Time>; 2], right: &[u8], answer: Written) {
-    use outside::boundary;
+    use outside::{boundary, leaves};
     let (before, mut lent) = (bytes.to_vec(), vec![KEPT; right.len()]);
     assert_eq!(boundary::cut_into(bytes, window[0], window[1], &mut lent), answer);
     assert!(lent == right, "{answer:?}");
@@ -40,6 +40,9 @@ fn same_at_boundary(bytes: &[u8], window: [Option<Time>; 2], right: &[u8], answe
         assert_eq!(boundary::cut(bytes, window[0], window[1]).as_deref(), Ok(&right[..n]));
         let mut index = vec![0; n / 20];
         assert_eq!(boundary::finished(&right[..n], &mut index), plain::finished(&right[..n], &mut vec![0; n / 20]));
+        let (mut text, mut listed) = ([0; 16_384], [0; 16_384]);
+        assert_eq!(boundary::listing(&right[..n], &mut text), leaves::listing(&right[..n], &mut listed));
+        assert!(text == listed);
     }
     assert_eq!(bytes, before);
 }

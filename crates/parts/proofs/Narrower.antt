@@ -122,15 +122,16 @@ module _ (n : List ℕ) (f l : General) (long : length n ≡ 67) where
   pub renamed-twice : (g h : General) → renamed (renamed n f l) g h ≡ renamed n g h
   renamed-twice g h = rw (name-front, name-mark, name-back)
 
--- ---- THE LAW, on parts
-module _ {m m′ m″ : List ℕ} {rs : List (List ℕ)} {w v : Window} (b : Built m rs) (i : Inside w v)
-    (x : Rewritten m m′ (cutValues m v rs)) (y : Rewritten m′ m″ (cutValues m′ w (cutParts m v rs))) where
+module _ {m m′ : List ℕ} {w v : Window} (rs : List (List ℕ)) (i : Inside w v) (x : Rewritten m m′ (cutValues m v rs)) where
   narrower-records : cutParts m′ w (cutParts m v rs) ≡ cutParts m w rs
   narrower-records =
       sym (assembled-same m m′ (only isSphr (cutParts m v rs)) (only (isKept w) (cutParts m v rs)) (part-same m m′ 8 12 (λ j h. x .start (8 + j) (omega arith))))
       ∙ ap (λ (f : List (List ℕ)). assembled m f (only (isKept w) (cutParts m v rs))) (cut-sphr m v rs)
       ∙ ap (assembled m (only isSphr rs)) (kept-again i m rs)
 
+-- ---- THE LAW, on parts
+module _ {m m′ m″ : List ℕ} {rs : List (List ℕ)} {w v : Window} (b : Built m rs) (i : Inside w v)
+    (x : Rewritten m m′ (cutValues m v rs)) (y : Rewritten m′ m″ (cutValues m′ w (cutParts m v rs))) where
   same-start : sensingStart m′ w (cutParts m v rs) ≡ sensingStart m w rs
   same-start = ap (λ (l : List (List ℕ)). toSecond (firstStart l)) (chosen-again i m rs)
 
@@ -167,7 +168,7 @@ module _ {m m′ m″ : List ℕ} {rs : List (List ℕ)} {w v : Window} (b : Bui
   narrower-lines =
       let q = cutParts m w rs in
       let z : Rewritten m′ m″ (valuesOf (countLines q (otherLines m′ w (cutParts m v rs)))) =
-      subst (λ (l : List (List ℕ)). Rewritten m′ m″ (valuesOf (countLines l (otherLines m′ w (cutParts m v rs))))) narrower-records y in
+      subst (λ (l : List (List ℕ)). Rewritten m′ m″ (valuesOf (countLines l (otherLines m′ w (cutParts m v rs))))) (narrower-records rs i x) y in
       let g = count-agree m′ m (cutParts m v rs) q (otherLines m v rs) (otherLines m′ w (cutParts m v rs)) (otherLines m w rs) lines-agree in
       record {
         long = z .long;
@@ -179,27 +180,36 @@ module _ {m m′ m″ : List ℕ} {rs : List (List ℕ)} {w v : Window} (b : Bui
 records-back : {b h : List ℕ} {ps : List (List ℕ)} → b ≡ bytesOf h ps → Built h ps → (t : Meets b) → recordsAt b (t .list) ≡ ps
 records-back {b} {h} {ps} e u = subst (λ (z : List ℕ). (t : Meets z) → recordsAt z (t .list) ≡ ps) (sym e) (parts-back h ps u)
 
--- ---- THE LAW, on bytes: c is the cut by w of b, which is the cut by v of a
-pub cut-of-cut : {a b c : List ℕ} {w v : Window} → Bytes a → (x : IsCut a v b) → Holdable (cutRecords a v (x .product)) → Inside w v → IsCut b w c → IsCut a w c
-cut-of-cut {a} {b} {c} {w} {v} byte x k i y =
-    let built = meets-built a (x .product) in
-    let whole = cut-is-built v built (λ r n. parts-byte a byte (x .product .list) r n) k (x .lines) in
-    let rs = recordsAt a (x .product .list) in
-    let h = x .header in
-    let ps = cutParts (mainOf a) v rs in
-    let e : mainOf b ≡ h = ap mainOf (x .whole) ∙ main-back h ps whole in
-    let d : recordsAt b (y .product .list) ≡ ps = records-back (x .whole) whole (y .product) in
-    let l : Rewritten h (y .header) (cutValues h w ps) =
-    subst (λ (z : List ℕ). Rewritten z (y .header) (cutValues z w ps)) e
-    (subst (λ (z : List (List ℕ)). Rewritten (mainOf b) (y .header) (cutValues (mainOf b) w z)) d (y .lines)) in
-    let s : cutRecords b w (y .product) ≡ cutParts (mainOf a) w rs =
-    ap (cutParts (mainOf b) w) d ∙ ap (λ (z : List ℕ). cutParts z w ps) e ∙ narrower-records built i (x .lines) l in
-    record {
-      product = x .product;
-      header = y .header;
-      lines = narrower-lines built i (x .lines) l;
-      whole = y .whole ∙ ap (bytesOf (y .header)) s;
-    }
+-- ---- THE LAW, on bytes: b is the cut by v of a
+module _ {a b : List ℕ} {v : Window} (byte : Bytes a) (x : IsCut a v b) (k : Holdable (cutRecords a v (x .product))) where
+  whole : Built (x .header) (cutRecords a v (x .product))
+  whole = cut-is-built v (meets-built a (x .product)) (λ r n. parts-byte a byte (x .product .list) r n) k (x .lines)
+
+  main-is : mainOf b ≡ x .header
+  main-is = ap mainOf (x .whole) ∙ main-back (x .header) (cutRecords a v (x .product)) whole
+
+  records-are : (t : Meets b) → recordsAt b (t .list) ≡ cutRecords a v (x .product)
+  records-are t = records-back (x .whole) whole t
+
+  module _ {w : Window} (i : Inside w v) where
+    -- the records of its cut by w are those of the cut of a
+    pub cut-of-cut-records : (t : Meets b) → cutRecords b w t ≡ cutRecords a w (x .product)
+    cut-of-cut-records t =
+        ap (cutParts (mainOf b) w) (records-are t) ∙ ap (λ (z : List ℕ). cutParts z w (cutRecords a v (x .product))) main-is ∙ narrower-records (recordsAt a (x .product .list)) i (x .lines)
+
+    -- and so is the whole
+    pub cut-of-cut : {c : List ℕ} → IsCut b w c → IsCut a w c
+    cut-of-cut y =
+        let ps = cutRecords a v (x .product) in
+        let l : Rewritten (x .header) (y .header) (cutValues (x .header) w ps) =
+        subst (λ (z : List ℕ). Rewritten z (y .header) (cutValues z w ps)) main-is
+        (subst (λ (z : List (List ℕ)). Rewritten (mainOf b) (y .header) (cutValues (mainOf b) w z)) (records-are (y .product)) (y .lines)) in
+        record {
+          product = x .product;
+          header = y .header;
+          lines = narrower-lines (meets-built a (x .product)) i (x .lines) l;
+          whole = y .whole ∙ ap (bytesOf (y .header)) (cut-of-cut-records (y .product));
+        }
 
 -- AT MOST ONE is the cut
 pub one-cut : {a b c : List ℕ} {w : Window} → IsCut a w b → IsCut a w c → b ≡ c

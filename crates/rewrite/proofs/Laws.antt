@@ -20,7 +20,7 @@ use Rattle.parts.specs.Cut.{Window, Inside, isWindow}
 use Rattle.parts.specs.Rewritten.{Holdable}
 use Rattle.parts.specs.TownCut.{cutRecords, IsCut}
 use Rattle.parts.proofs.CutHeaderLaws.{Bytes}
-use Rattle.parts.proofs.Narrower.{one-cut, cut-of-cut}
+use Rattle.parts.proofs.Narrower.{one-cut, cut-of-cut-records, cut-of-cut}
 use Rattle.parts.proofs.TownLaws.{town-product}
 use Rattle.rewrite.specs.Cut.{refusedAt, cutSize, CutIs, no-window, unfit, short, too-much, no-room, written}
 use Rattle.rewrite.proofs.PlanLaws.{same-records}
@@ -165,3 +165,21 @@ written-is {a} {w} {room} n s e (written t b d h l c) =
   where
     bytes-of : {i j : ℕ} → W.Bytes i ≡ W.Bytes j → i ≡ j
     bytes-of e = cc
+
+-- ---- A CUT OF A CUT: what is right to answer of b, the cut of a by v, and a window that lies inside v, is right to answer of a and that window; so the
+-- two answers are one (`unique-cut`), refusals too
+pub narrower-answer :
+    {a b : List ℕ} {w v : Window} {room exit : List ℕ} {r : Written} (byte : Bytes a) (x : IsCut a v b) → Holdable (cutRecords a v (x .product)) → Inside w v
+    → CutIs b w room r exit → CutIs a w room r exit
+narrower-answer byte x k i (no-window e) = no-window e
+narrower-answer byte x k i (unfit q e g) = absurd (not-refused (town-product byte x k) q g)
+narrower-answer byte x k i (short e g) = absurd (not-part (town-product byte x k) g)
+narrower-answer byte x k i (too-much t e h) = too-much (x .product) e (λ g. h (subst Holdable (sym (cut-of-cut-records byte x k i t)) g))
+narrower-answer {a} {b} {w} {room = room} byte x k i (no-room t e h l) =
+    let s = cut-of-cut-records byte x k i t in
+    let z : cutSize b w t ≡ cutSize a w (x .product) = ap (λ (ps : List (List ℕ)). 3307 + bytes ps) s in
+    subst (λ (n : ℕ). CutIs a w room (refusedAt 18 n) room) (sym z) (no-room (x .product) e (subst Holdable s h) (omega (arith, z)))
+narrower-answer {a} {b} {w} {room = room} byte x k i (written t c e h l y) =
+    let s = cut-of-cut-records byte x k i t in
+    let z : cutSize b w t ≡ cutSize a w (x .product) = ap (λ (ps : List (List ℕ)). 3307 + bytes ps) s in
+    subst (λ (n : ℕ). CutIs a w room (W.Bytes n) (c ++ drop n room)) (sym z) (written (x .product) c e (subst Holdable s h) (omega (arith, z)) (cut-of-cut byte x k i y))

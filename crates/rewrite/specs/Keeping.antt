@@ -27,6 +27,10 @@ keptAt w a i = (leb 4 (getD a i 0) && leb (getD a i 0) 7) || (eqb (getD a i 0) 8
 abbrev pub textAt : Window → List ℕ → ℕ → ℕ → List ℕ
 textAt w a i size = cond (keptAt w a i) (take size (drop i a)) []
 
+-- and a room for them from byte p on
+abbrev pub RoomFor : Window → List ℕ → ℕ → ℕ → List ℕ → ℕ → Type 0
+RoomFor w a i size room p = Lead a i × (i + size ≤ length a) × (p + length (textAt w a i size) ≤ length room)
+
 pub record PutsOne (w : Window) (a : List ℕ) (i size : ℕ) (room : List ℕ) (p r : ℕ) (exit : List ℕ) : Type 0 where
   pub next : r ≡ p + length (textAt w a i size)
   pub put : exit ≡ sets room p (textAt w a i size)

@@ -74,3 +74,6 @@ pub record HeaderFor (a : List ℕ) (t u : Time) (totals : List ℕ) (size : ℕ
 -- the lines of the cut, by these
 abbrev pub linesBy : List ℕ → Time → Time → List ℕ → ℕ → List Anew
 linesBy m t u totals size = anew 28 (whole size) ∷ (totalLines totals 0 9 ++ (timeLines (valueOf m 0) t u ++ unknownLines))
+
+abbrev pub HeaderIs : List ℕ → Time → Time → List ℕ → ℕ → List ℕ → Type 0
+HeaderIs a t u totals size h = Rewritten (mainOf a) h (valuesOf (linesBy (mainOf a) t u totals size))

@@ -12,11 +12,10 @@ ghost use lib.ListN.{length, getD};
 ghost use lib.Seq.{sets};
 ghost use Rattle.meter.specs.Time.{isTime};
 ghost use Rattle.mphr.specs.Layout.{widthOf, lineStart};
-ghost use Rattle.parts.specs.Parts.{mainOf};
-ghost use Rattle.parts.specs.Rewritten.{valueOf, Rewritten, valuesOf};
+ghost use Rattle.parts.specs.Rewritten.{valueOf};
 ghost use Rattle.parts.specs.CutHeader.{toSecond, stamp};
-ghost use Rattle.rewrite.specs.Lining.{Adds, NumberFor, numberLine, wholeNumber, Totals};
-ghost use Rattle.rewrite.specs.Lining.{unknownLines, totalLines, timed, timeLines, HeaderFor, linesBy};
+ghost use Rattle.rewrite.specs.Lining.{Adds, NumberFor, numberLine, wholeNumber, Totals, unknownLines, totalLines};
+ghost use Rattle.rewrite.specs.Lining.{timed, timeLines, HeaderFor, HeaderIs};
 
 // The value of line k.
 fn set_value(header: &mut [u8], k: usize, value: &[u8])
@@ -123,8 +122,7 @@ pub(crate) fn put_header(
     header: &mut [u8],
 )
     requires { ⌜ HeaderFor (now s) start stop (now totals) size (now header) ⌝ }
-    ensures { λ r. ⌜ Rewritten (mainOf (now (s .entry))) (now (header .exit))
-        (valuesOf (linesBy (mainOf (now (s .entry))) start stop (now (totals .entry)) size)) ⌝ }
+    ensures { λ r. ⌜ HeaderIs (now (s .entry)) start stop (now (totals .entry)) size (now (header .exit)) ⌝ }
 {
     copy(s, 0, 3307, header, 0);
     set_unknown(header);

@@ -13,7 +13,7 @@ ghost use mathlib.Core.Path.{_≡_};
 ghost use Prim.Native.Nat.{_+_, _≤_};
 ghost use lib.ListN.{length};
 ghost use Rattle.parts.specs.Cut.{window};
-ghost use Rattle.rewrite.specs.Keeping.{Lead, keptAt, textAt, PutsOne, Roomy, PutsKept};
+ghost use Rattle.rewrite.specs.Keeping.{Lead, keptAt, RoomFor, PutsOne, Roomy, PutsKept};
 ghost use Rattle.rewrite.specs.Surveying.{SumsOf, SurveyOne, Surveying, Surveyable, Surveyed};
 
 // The bytes of the SPHR and of the records that are kept, how many records these are, the earliest start and the latest stop of the MDRs.
@@ -123,8 +123,7 @@ fn put_one(
     room: &mut [u8],
     p: usize,
 ) -> usize
-    requires { ⌜ Lead (now s) at × (at + size ≤ length (now s))
-        × (p + length (textAt (window first last) (now s) at size) ≤ length (now room)) ⌝ }
+    requires { ⌜ RoomFor (window first last) (now s) at size (now room) p ⌝ }
     ensures { λ r. ⌜ PutsOne (window first last) (now (s .entry)) at size (now (room .entry)) p r (now (room .exit)) ⌝ }
 {
     if !is_kept(s, first, last, at) {

@@ -50,17 +50,23 @@ module _ (a t : List ℕ) (i j : ℕ) (b : (k : ℕ) → getD a k 0 < 256) (c : 
     second : beAt a (i + 4) 4 ≡ beAt t (j + 4) 4
     second = omega (arith, first)
 
-    all : getD a (i + 8) 0 ≡ getD t (j + 8) 0 → getD a (i + 9) 0 ≡ getD t (j + 9) 0 → Alike a t i j 10
-    all f g m h = go (decLt m 4) (decLt m 8) (ℕ-discrete m 8)
+    pub eight-alike : Alike a t i j 8
+    eight-alike m h = go (decLt m 4)
       where
-        go : Dec (m < 4) → Dec (m < 8) → Dec (m ≡ 8) → getD a (i + m) 0 ≡ getD t (j + m) 0
-        go (yes l) u v = bytes-same a t i j 4 (λ k _. b (i + k)) (λ k _. c (j + k)) first m l
-        go (no l) (yes u) v =
+        go : Dec (m < 4) → getD a (i + m) 0 ≡ getD t (j + m) 0
+        go (yes l) = bytes-same a t i j 4 (λ k _. b (i + k)) (λ k _. c (j + k)) first m l
+        go (no l) =
             let n = m - 4 in
             let q : 4 + n ≡ m = omega arith in
             ap (λ (k : ℕ). getD a (i + k) 0) (sym q) ∙ sym (later a i n) ∙ bytes-same a t (i + 4) (j + 4) 4 (λ k _. b (i + 4 + k)) (λ k _. c (j + 4 + k)) second n (omega arith) ∙ later t j n ∙ ap (λ (k : ℕ). getD t (j + k) 0) q
-        go (no l) (no u) (yes v) = rw v f
-        go (no l) (no u) (no v) = let w : m ≡ 9 = omega (arith, v) in rw w g
+
+    all : getD a (i + 8) 0 ≡ getD t (j + 8) 0 → getD a (i + 9) 0 ≡ getD t (j + 9) 0 → Alike a t i j 10
+    all f g m h = go (decLt m 8) (ℕ-discrete m 8)
+      where
+        go : Dec (m < 8) → Dec (m ≡ 8) → getD a (i + m) 0 ≡ getD t (j + m) 0
+        go (yes u) v = eight-alike m u
+        go (no u) (yes v) = rw v f
+        go (no u) (no v) = let w : m ≡ 9 = omega (arith, v) in rw w g
 
     pub last : getD a (i + 8) 0 ≡ getD t (j + 8) 0 → AlikeIs a t i j (eqb (getD a (i + 9) 0) (getD t (j + 9) 0))
     last f = go (ℕ-discrete (getD a (i + 9) 0) (getD t (j + 9) 0))

@@ -10,3 +10,4 @@ pub mod WritingLaws
 pub mod LineBack
 pub mod Determined
 pub mod AlikeLaws
+pub mod QuickLaws

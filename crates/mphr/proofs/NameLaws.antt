@@ -164,6 +164,16 @@ find (r ∷ rs) (suc i) k h d =
 pub found : (i : ℕ) → i < 72 → fieldNamed (nameOf i) ≡ answer i
 found i h = find rows i 0 (omega (arith, count)) (λ m l e. omega (arith, unique i m h (omega arith) e)) ∙ ap answer (zero-add i)
 
+-- and it refuses what is no name
+no-row : (rs : List (List ℕ)) (k : ℕ) (xs : List ℕ) → ((i : ℕ) → i < length rs → xs ≡ getD rs i [] → ⊥) → lookFrom rs k xs ≡ (refusal 22 0)
+no-row [] k xs d = refl
+no-row (r ∷ rs) k xs d =
+    pass (same xs r) (answer k) (lookFrom rs (suc k) xs) (refusal 22 0) (λ e. d 0 (omega arith) (same-eq xs r e))
+    (no-row rs (suc k) xs (λ i l e. d (suc i) (omega arith) e))
+
+pub no-name : (xs : List ℕ) → ((i : ℕ) → i < 72 → xs ≡ nameOf i → ⊥) → fieldNamed xs ≡ (refusal 22 0)
+no-name xs d = no-row rows 0 xs (λ i l e. d i (omega (arith, count)) e)
+
 -- ---- what a byte of the table says of a name
 module _ (i j : ℕ) (h : i < 72) (k : j < 30) where
   pub byte-in : j < length (nameOf i) → getD names (30 * i + j) 0 ≡ getD (nameOf i) j 0

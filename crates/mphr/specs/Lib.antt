@@ -1,5 +1,7 @@
 pub mod Layout
 pub mod Lookup
+pub mod Rows
+pub mod Quick
 pub mod NameTable
 pub mod Table
 pub mod Resumed

@@ -55,7 +55,7 @@ fn is_headed(s: &[u8]) -> bool
     }
 }
 
-fn wide(b: u8) -> u64
+pub(crate) fn wide(b: u8) -> u64
     ensures { λ r. ⌜ (r ≡ b) × (r < 256) ⌝ }
 {
     b as u64
@@ -70,7 +70,7 @@ fn four(s: &[u8], at: usize) -> u64
 }
 
 // The number in the 8 bytes from `at` on, which is one load.
-fn eight(s: &[u8], at: usize) -> u64
+pub(crate) fn eight(s: &[u8], at: usize) -> u64
     requires { ⌜ at + 8 ≤ length (now s) ⌝ }
     ensures { λ r. ⌜ r ≡ beAt (now (s .entry)) at 4 * 4294967296 + beAt (now (s .entry)) (at + 4) 4 ⌝ }
 {

@@ -1,11 +1,18 @@
 // Where each of the 72 lines stands, what it is called, and of which kind and width its value is.
+use crate::rows::end_0;
+use crate::rows::end_1;
+use crate::rows::end_2;
+use crate::rows::head_0;
+use crate::rows::head_1;
+use crate::rows::head_2;
 use calendar::Refusal;
 use text::Kind;
 ghost use mathlib.Core.Path.{_≡_};
 ghost use Prim.Native.Nat.{_≤_, _<_};
 ghost use lib.ListN.{getD};
-ghost use Rattle.mphr.specs.Layout.{names, widths, codeOf, kindFrom, codes, widthOf, kindOf, lineStart};
+ghost use Rattle.mphr.specs.Layout.{nameOf, widths, codeOf, kindFrom, codes, widthOf, kindOf, lineStart};
 ghost use Rattle.mphr.specs.Layout.{fieldOf, saidPlace};
+ghost use Rattle.mphr.specs.Quick.{wordsOf, joined, byteOf};
 
 // A field: where its line starts, how wide its value is, and of which kind.
 pub struct Place {
@@ -331,14 +338,44 @@ pub(crate) const KINDS: [u8; 72] = [
     TEXT,
 ];
 
-pub(crate) fn name_byte(k: usize) -> u8
-    requires { ⌜ k < 2160 ⌝ }
-    ensures { λ r. ⌜ r ≡ getD names k 0 ⌝ }
+fn joined(head: [u64; 3], end: [u64; 2]) -> [u64; 5]
+    ensures { λ r. ⌜ r ≡ joined head end ⌝ }
 {
-    NAMES[k]
+    [head[0], head[1], head[2], end[0], end[1]]
 }
 
-fn size_of(b: u8) -> usize
+// The row of name k.
+pub(crate) fn words(k: usize) -> [u64; 5]
+    requires { ⌜ k < 72 ⌝ }
+    ensures { λ r. ⌜ r ≡ wordsOf (nameOf k) ⌝ }
+{
+    if k < 24 {
+        return joined(head_0(k), end_0(k));
+    }
+    if k < 48 {
+        return joined(head_1(k), end_1(k));
+    }
+    joined(head_2(k), end_2(k))
+}
+
+// Byte j of the eight that are the number w.
+pub(crate) fn byte_of(w: u64, j: usize) -> u8
+    requires { ⌜ j < 8 ⌝ }
+    ensures { λ r. ⌜ r ≡ byteOf w j ⌝ }
+{
+    match j {
+        0 => (w / 0x100000000000000 % 256) as u8,
+        1 => (w / 0x1000000000000 % 256) as u8,
+        2 => (w / 0x10000000000 % 256) as u8,
+        3 => (w / 0x100000000 % 256) as u8,
+        4 => (w / 0x1000000 % 256) as u8,
+        5 => (w / 0x10000 % 256) as u8,
+        6 => (w / 0x100 % 256) as u8,
+        _ => (w % 256) as u8,
+    }
+}
+
+pub(crate) fn size_of(b: u8) -> usize
     ensures { λ r. ⌜ r ≡ b ⌝ }
 {
     b as usize

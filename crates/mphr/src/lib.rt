@@ -4,3 +4,4 @@ pub mod faults;
 pub mod layout;
 pub mod lines;
 pub mod names;
+mod rows;

@@ -5,9 +5,10 @@ use crate::layout::SIGNED;
 use crate::layout::TEXT;
 use crate::layout::TIME;
 use crate::layout::UNSIGNED;
+use crate::layout::byte_of;
 use crate::layout::code;
-use crate::layout::name_byte;
 use crate::layout::width;
+use crate::layout::words;
 use calendar::Refusal;
 use meter::general::General;
 use meter::integer::Written;
@@ -84,10 +85,11 @@ pub(crate) fn put_name(room: &mut [u8], k: usize, n: usize)
     requires { ⌜ (k < 72) × (n ≤ 30) × (n ≤ length (now room)) ⌝ }
     ensures { λ r. ⌜ now (room .exit) ≡ putName (now (room .entry)) k n ⌝ }
 {
+    let row = words(k);
     let mut i: usize = n;
     while 0 < i {
         i -= 1;
-        room[i] = name_byte(30 * k + i);
+        room[i] = byte_of(row[i / 8], i % 8);
     }
 }
 

@@ -1,57 +1,34 @@
--- `mphr::lookup` meets its contract. The invariant: to search what is left gives what the whole search gives.
--- Assumes nothing.
-use mathlib.Core.Path.{_≡_, refl, sym, ap, _∙_}
-use Prim.Native.Nat.{ℕ, _+_, _-_, _≤_, _<_}
-use native.Mathlib.Omega.{arith}
+-- `mphr::names::field_named` meets its contract: the name is at its place or nowhere (QuickLaws). Assumes nothing.
+use mathlib.Core.Path.{sym, _∙_}
 use denote.Ref.{now}
-use lib.ListN.{length, drop}
-use Rattle.mphr.specs.Layout.{rows}
-use Rattle.mphr.specs.Lookup.{lookFrom, fieldNamed}
-use Rattle.mphr.proofs.NameLaws.{count, look-hit, look-miss, look-end}
+use borrow.Author.Needs.{needs}
+use Rattle.mphr.proofs.QuickLaws.{hit, miss, unlike}
 use Rattle.mphr.proofs.names.field_named.Statement.{statement}
 use Rattle.mphr.proofs.names.field_named.Tie as tie
 
-abbrev Inv-loop : tie.InvT-loop
-Inv-loop name i₀ i = fieldNamed name ≡ lookFrom (drop i rows) i name
-
-abbrev μ-loop : tie.MeasureT-loop
-μ-loop name i₀ i = 72 - i
-
-loop-holds : tie.Need-loop-holds Inv-loop μ-loop
-loop-holds c = refl
-
-matches-requires : tie.Need-matches-requires Inv-loop μ-loop
-matches-requires c κs = omega arith
-
-returns : tie.Need-returns Inv-loop μ-loop
+returns : tie.Need-returns
 returns c =
-    let l = c .before .before .before .loop in
-    sym (l .inv ∙ look-hit rows (l .i) (now (c .before .before .before .before .before .args .name)) (omega (arith, count)) (sym (c .before .matches .ensures) ∙ c .if1 .taken))
+    let m = c .before in
+    let l = m .before .before in
+    let s = l .before .before in
+    hit (now (s .args .name)) (l .likely .result) (l .likely .ensures) (m .before .if1 .taken) (sym (m .matches .ensures) ∙ c .if2 .taken)
 
-add-i : tie.Need-add-i Inv-loop μ-loop
-add-i c = omega arith
+returns-2 : tie.Need-returns-2
+returns-2 c =
+    let m = c .before in
+    let l = m .before .before in
+    let s = l .before .before in
+    unlike (now (s .args .name)) (l .likely .result) (l .likely .ensures) (sym (m .matches .ensures) ∙ c .if2 .left)
 
-loop-less : tie.Need-loop-less Inv-loop μ-loop
-loop-less c = omega arith
-
-loop-again : tie.Need-loop-again Inv-loop μ-loop
-loop-again c =
-    let l = c .before .before .before .loop in
-    l .inv ∙ look-miss rows (l .i) (now (c .before .before .before .before .before .args .name)) (omega (arith, count)) (sym (c .before .matches .ensures) ∙ c .if1 .left)
-
-returns-2 : tie.Need-returns-2 Inv-loop μ-loop
-returns-2 c = sym (c .before .loop .inv ∙ look-end rows (c .before .loop .i) (now (c .before .before .before .args .name)) (omega (arith, count)))
+returns-3 : tie.Need-returns-3
+returns-3 c = let l = c .before in miss (now (l .before .before .args .name)) (l .likely .result) (l .likely .ensures) (c .if1 .left)
 
 pub field-named-spec : {M : Type 1} → statement M
 field-named-spec =
     tie.close
     (tie.spec
-    Inv-loop
-    μ-loop
-    loop-holds
-    matches-requires
+    (λ c κs. search needs)
+    (λ c κs. search needs)
     returns
-    add-i
-    loop-less
-    loop-again
-    returns-2)
+    returns-2
+    returns-3)

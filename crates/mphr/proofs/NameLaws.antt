@@ -1,17 +1,15 @@
 -- The laws of the name table: by one test that antt computes over its 2,160 bytes each entry is letters and then spaces and no two are equal; the
 -- entries are the layout's names, padded; so a name is found, and has one place. By induction on the entries. Assumes nothing.
-use mathlib.Core.Path.{_≡_, refl, sym, ap, _∙_, subst}
+use mathlib.Core.Path.{_≡_, refl, sym, ap, _∙_}
 use mathlib.Core.Bool.{Bool, true, false, not, cond, _&&_, true≢false}
 use mathlib.Core.List.{List, [], _∷_, map}
 use Prim.Native.Nat.{ℕ, zero, suc, _+_, _-_, _*_, _≤_, _<_}
 use native.Mathlib.Nat.{not-suc-le-zero, le-of-suc-le-suc, zero-add, mul-suc, add-zero, suc-add, add-suc}
-use native.Mathlib.Numerals.{add-one}
-use native.Mathlib.Decide.{decLt}
 use native.Mathlib.Omega.{arith}
-use borrow.Author.Tests.{eq-eqb, ne-eqb, eqb-true}
-use lib.Dec.{T, eqb, eqb·suc-suc, eqb→eq, leb, leb→le}
-use lib.ListN.{length, getD, drop, replicate, length-append, length-replicate, getD-replicate, List·getD-append, List·getD-map, drop-of-length-le}
-use lib.Seq.{getD-append-add, getD-take, getD-drop, take-at, drop-at, drop-cons}
+use borrow.Author.Tests.{eq-eqb, eqb-true}
+use lib.Dec.{T, eqb, eqb→eq, leb, leb→le}
+use lib.ListN.{length, getD, drop, replicate, length-append, length-replicate, List·getD-append, List·getD-map}
+use lib.Seq.{getD-take, getD-drop, take-at, drop-at}
 use lib.Ieee.Fits.{and-l, and-r}
 use Rattle.mphr.specs.Layout.{fields, rows, names, nameOf, pad, flat}
 use Rattle.mphr.specs.Lookup.{same, lookFrom, fieldNamed}
@@ -50,9 +48,6 @@ module _ (i : ℕ) (h : i < 72) where
   pub most : length (nameOf i) ≤ 30
   most = leb→le (length (nameOf i)) 30 (and-l (leb (length (nameOf i)) 30) (all letter (nameOf i)) rule)
 
-  pub no-space : (j : ℕ) → j < length (nameOf i) → getD (nameOf i) j 0 ≡ 32 → ⊥
-  no-space j l e = subst (λ (k : ℕ). T (letter k)) e (all-at letter (nameOf i) (and-r (leb (length (nameOf i)) 30) (all letter (nameOf i)) rule) j 0 l)
-
 -- ---- the entries are the names, padded; the byte at 30 * i + j of the table
 length-pad : (r : List ℕ) → length r ≤ 30 → length (pad r) ≡ 30
 length-pad r h = length-append r (replicate (30 - length r) 32) ∙ omega (arith, length-replicate {A = ℕ} (30 - length r) 32)
@@ -84,19 +79,7 @@ at-table i j h k = sym (entry-byte 72 names i j h k) ∙ ap (λ (r : List ℕ). 
 pub pad-in : (r : List ℕ) (j : ℕ) → j < length r → getD (pad r) j 0 ≡ getD r j 0
 pad-in r j h = List·getD-append r (replicate (30 - length r) 32) 0 j h
 
-pub pad-out : (r : List ℕ) (j : ℕ) → length r ≤ j → j < 30 → getD (pad r) j 0 ≡ 32
-pad-out r j h k =
-    let e : j ≡ length r + (j - length r) = omega arith in
-    ap (λ (n : ℕ). getD (pad r) n 0) e ∙ getD-append-add r (replicate (30 - length r) 32) (j - length r) 0
-    ∙ getD-replicate (30 - length r) (j - length r) 32 0 (omega arith)
-
--- ---- two lists, compared from j on
-pub same-end : (xs : List ℕ) (j : ℕ) → j ≤ length xs → same (drop j xs) [] ≡ eqb j (length xs)
-same-end [] zero h = refl
-same-end [] (suc j) h = absurd (not-suc-le-zero h)
-same-end (x ∷ xs) zero h = sym (ne-eqb 0 (suc (length xs)) (λ e. omega arith))
-same-end (x ∷ xs) (suc j) h = same-end xs j (le-of-suc-le-suc h) ∙ sym (eqb·suc-suc j (length xs))
-
+-- ---- two lists that are the same are equal
 pub same-refl : (xs : List ℕ) → same xs xs ≡ true
 same-refl [] = refl
 same-refl (x ∷ xs) = rw (eq-eqb x x refl) (same-refl xs)
@@ -174,44 +157,6 @@ no-row (r ∷ rs) k xs d =
 pub no-name : (xs : List ℕ) → ((i : ℕ) → i < 72 → xs ≡ nameOf i → ⊥) → fieldNamed xs ≡ (refusal 22 0)
 no-name xs d = no-row rows 0 xs (λ i l e. d i (omega (arith, count)) e)
 
--- ---- what a byte of the table says of a name
-module _ (i j : ℕ) (h : i < 72) (k : j < 30) where
-  pub byte-in : j < length (nameOf i) → getD names (30 * i + j) 0 ≡ getD (nameOf i) j 0
-  byte-in l = at-table i j h k ∙ pad-in (nameOf i) j l
-
-  pub ends : getD names (30 * i + j) 0 ≡ 32 → length (nameOf i) ≤ j
-  ends e = go (decLt j (length (nameOf i)))
-    where
-      go : Dec (j < length (nameOf i)) → length (nameOf i) ≤ j
-      go (yes l) = absurd (no-space i h j l (sym (byte-in l) ∙ e))
-      go (no n) = omega (arith, n)
-
-  pub goes : (getD names (30 * i + j) 0 ≡ 32 → ⊥) → j < length (nameOf i)
-  goes d = go (decLt j (length (nameOf i)))
-    where
-      go : Dec (j < length (nameOf i)) → j < length (nameOf i)
-      go (yes l) = l
-      go (no n) = absurd (d (at-table i j h k ∙ pad-out (nameOf i) j (omega (arith, n)) k))
-
--- two lists from j on: one has ended, they differ there, they agree there
-pub short : (xs r : List ℕ) (j : ℕ) → length xs ≤ j → j < length r → same (drop j xs) (drop j r) ≡ false
-short xs r j h k = rw (drop-of-length-le xs h, drop-cons r j 0 k)
-
-pub differ : (xs r : List ℕ) (j : ℕ) → j < length xs → j < length r → (getD xs j 0 ≡ getD r j 0 → ⊥) → same (drop j xs) (drop j r) ≡ false
-differ xs r j h k d = rw (drop-cons xs j 0 h, drop-cons r j 0 k, ne-eqb _ _ d)
-
-pub agree : (xs r : List ℕ) (j : ℕ) → j < length xs → j < length r → getD xs j 0 ≡ getD r j 0 → same (drop j xs) (drop j r) ≡ same (drop (j + 1) xs) (drop (j + 1) r)
-agree xs r j h k e = rw (add-one j, drop-cons xs j 0 h, drop-cons r j 0 k, eq-eqb _ _ e)
-
-pub over : (xs r : List ℕ) (j : ℕ) → j ≤ length xs → length r ≤ j → same (drop j xs) (drop j r) ≡ eqb j (length xs)
-over xs r j h k = rw (drop-of-length-le r k) (same-end xs j h)
-
--- one row of the search
-pub look-hit : (rs : List (List ℕ)) (i : ℕ) (xs : List ℕ) → i < length rs → same xs (getD rs i []) ≡ true → lookFrom (drop i rs) i xs ≡ answer i
-look-hit rs i xs h e = rw (drop-cons rs i [] h, e)
-
-pub look-miss : (rs : List (List ℕ)) (i : ℕ) (xs : List ℕ) → i < length rs → same xs (getD rs i []) ≡ false → lookFrom (drop i rs) i xs ≡ lookFrom (drop (i + 1) rs) (i + 1) xs
-look-miss rs i xs h e = rw (add-one i, drop-cons rs i [] h, e)
-
-pub look-end : (rs : List (List ℕ)) (i : ℕ) (xs : List ℕ) → length rs ≤ i → lookFrom (drop i rs) i xs ≡ (refusal 22 0)
-look-end rs i xs h = rw (drop-of-length-le rs h)
+-- a byte of the table, where the name goes so far
+pub byte-in : (i j : ℕ) → i < 72 → j < 30 → j < length (nameOf i) → getD names (30 * i + j) 0 ≡ getD (nameOf i) j 0
+byte-in i j h k l = at-table i j h k ∙ pad-in (nameOf i) j l

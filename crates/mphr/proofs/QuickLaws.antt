@@ -1,12 +1,12 @@
 -- The laws of the quick lookup. By tests that antt computes over the 72 names, the tables are the rows and the places of the names; a name and
 -- a row are the same where their lengths and their eights are, which overlap at the end; so a name is looked for at one place. Assumes nothing.
 use mathlib.Core.Path.{_≡_, refl, sym, ap, _∙_}
-use mathlib.Core.Bool.{Bool, true, false, cond, _&&_, true≢false}
+use mathlib.Core.Bool.{Bool, true, false, _&&_}
 use mathlib.Core.List.{List, [], _∷_}
 use Prim.Native.Nat.{ℕ, zero, suc, _+_, _-_, _*_, _/_, _%_, _≤_, _<_}
 use native.Mathlib.Decide.{decLt}
 use native.Mathlib.Omega.{arith}
-use borrow.Author.Tests.{eq-eqb, ne-eqb, eqb-true, le-leb, lt-leb, ltb-true}
+use borrow.Author.Tests.{eq-eqb, eqb-true, le-leb, lt-leb, ltb-true}
 use lib.Dec.{T, eqb, eqb→eq, leb, leb→le, ltb}
 use lib.ListN.{length, getD}
 use lib.Seq.{ext-getD}

@@ -1,7 +1,6 @@
 -- `mphr::layout::words` meets its contract: the joined entries are the row (QuickLaws). Assumes nothing.
 use mathlib.Core.Path.{_≡_, ap, _∙_}
 use Prim.Native.Nat.{ℕ, _<_}
-use native.Mathlib.Omega.{arith}
 use mathlib.Core.List.{List, []}
 use lib.ListN.{getD}
 use borrow.Author.Needs.{needs}

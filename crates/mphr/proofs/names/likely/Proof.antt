@@ -1,6 +1,4 @@
 -- `mphr::names::likely` meets its contract: what is computed is the definition. Assumes nothing.
-use native.Mathlib.Omega.{arith}
-use mathlib.Core.Path.{_≡_, ap, _∙_}
 use borrow.Author.Needs.{needs}
 use borrow.Author.Tests.{le-leb, lt-leb}
 use Rattle.mphr.specs.Quick.{likelyOf}

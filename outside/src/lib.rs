@@ -6,6 +6,7 @@ pub mod json;
 pub mod leap;
 pub mod leaves;
 pub mod lines;
+pub mod lookup;
 pub mod plain;
 pub mod seen;
 pub mod values;

@@ -3,7 +3,7 @@ use outside::generate::{build, Product, Rng, Shape, GROUPS};
 use outside::leaves::read_header;
 use outside::values::Time;
 use outside::watch::Watch;
-use outside::{cut, fast, Arrival, Finished};
+use outside::{cut, fast, lookup, Arrival, Finished};
 use std::cell::RefCell;
 use std::hint::black_box;
 use std::time::Instant;
@@ -198,6 +198,31 @@ fn measure_cut(what: &str, p: &Product, [first, last]: [Option<Time>; 2], runs: 
     ratio(&all, "cut boundary", "copy");
 }
 
+/// Lookups of a sort of names.
+fn measure_lookup(what: &str, names: &[Vec<u8>], runs: usize) {
+    println!("lookup, {what}: {} names, a thousand times each (72,000 lookups)", names.len());
+    let all = rounds(
+        runs,
+        1,
+        vec![
+            ("match", Box::new(|| looked_up(names, |name| lookup::field_named(name).unwrap_or(99)))),
+            #[cfg(feature = "boundary")]
+            ("lookup boundary", Box::new(|| looked_up(names, |name| boundary::raw::field_named(name)[2] as usize))),
+        ],
+    );
+    ratio(&all, "lookup boundary", "match");
+}
+
+fn looked_up(names: &[Vec<u8>], find: impl Fn(&[u8]) -> usize) {
+    let mut sum = 0;
+    for _ in 0..1000 {
+        for name in names {
+            sum += find(black_box(name));
+        }
+    }
+    black_box(sum);
+}
+
 fn main() {
     let runs = std::env::var("RUNS").ok().and_then(|n| n.parse().ok()).unwrap_or(15).max(9);
     measure("even", || even(64, false), runs, 1);
@@ -217,6 +242,11 @@ fn main() {
         // The main header a byte at a time.
         let p = large(12, 0, 20, 0, true);
         measure_watch(&p, 1, runs, 100);
+    }
+    if !left_out("lookup") {
+        for (what, names) in &lookup::names() {
+            measure_lookup(what, names, runs);
+        }
     }
     if !left_out("cut") {
         let p = even(64, false);

@@ -82,7 +82,7 @@ pub fn field_named(name: &[u8]) -> Option<usize> {
 /// The 72 names, and as many unknown ones of each of three sorts: the last letter changed, the first letter changed, a space after the name.
 pub fn names() -> [(&'static str, Vec<Vec<u8>>); 4] {
     let changed = |change: fn(&mut Vec<u8>)| {
-        LINES.iter().map(|line| {
+        LINES.iter().map(move |line| {
             let mut name = line.0.as_bytes().to_vec();
             change(&mut name);
             name

@@ -320,8 +320,9 @@ void wl_time_text(uint8_t *room, size_t len, uint8_t defined, uint16_t day, uint
 /* The time of the 18 bytes of long text from `at` on: 0, 0, defined, day, millisecond, 0; or 20, 21. Undefined are x's with or without the Z. */
 void wl_text_time(const uint8_t *bytes, size_t len, size_t at, uint64_t answer[6]);
 
-/* ---- scaled numbers: an integer of 2, 4 or 8 bytes divided by 10 to the scale, which is 0 to 15; another width or scale is 21. In bytes the scale
- * comes first, one byte, signed. The lowest signed integer of the width, or the highest unsigned one, is undefined whatever the scale */
+/* ---- scaled numbers: an integer of 2, 4 or 8 bytes divided by 10 to the scale, which is -15 to 15, so that 3 with scale -2 is 300; another width or
+ * scale is 21. In bytes the scale comes first, one byte, signed. The lowest signed integer of the width, or the highest unsigned one, is undefined
+ * whatever the scale */
 
 /* The scaled number in the 1 + width bytes from `at` on, its integer signed or not: 0, 0, defined, integer and scale in two's complement, 0; or
  * 20, 21. */
@@ -332,15 +333,15 @@ void wl_read_scaled(const uint8_t *bytes, size_t len, size_t at, size_t width, u
 void wl_write_scaled(uint8_t *room, size_t len, size_t width, uint8_t signed_, uint8_t defined, int64_t integer, int8_t scale,
                      uint64_t answer[4]);
 
-/* A scaled number rounded to 0 to 15 decimals, a tie away from zero: 0, 0, defined, the units of the last decimal in two's complement; or 21, for
- * other decimals also where the number is undefined. To show it, write its sign first, since -0.1 is -1 tenth and -1 / 10 is 0:
+/* A scaled number rounded to 0 to 15 decimals, a tie away from zero: 0, 0, defined, the units of the last decimal in two's complement; or 21, where
+ * these are past 64 bits too, and for other decimals also where the number is undefined. To show it, write its sign first, since -0.1 is -1 tenth and -1 / 10 is 0:
  *     int64_t units = (int64_t)answer[3];
  *     uint64_t size = units < 0 ? 0 - (uint64_t)units : (uint64_t)units;
  *     printf("%s%llu.%0*llu", units < 0 ? "-" : "", size / power, decimals, size % power);      with power = 10 to the decimals, which are not 0 */
 void wl_round(uint8_t defined, int64_t integer, int8_t scale, int8_t decimals, uint64_t answer[4]);
 
-/* What a meter shows of a scaled number: 0, 0, then enum wl_shown, then 0, with the quotient, one division, in the value unless it is missing; or 21,
- * also for an integer beyond 2^53 either way, the value kept. */
+/* What a meter shows of a scaled number: 0, 0, then enum wl_shown, then 0, and the value unless it is missing: one division, or for a scale below 0
+ * the product, which is whole; or 21, also for an integer, or a product, beyond 2^53 either way, the value kept. */
 enum wl_shown { WL_MISSING = 0, WL_WHOLE = 1, WL_BETWEEN = 2 };
 void wl_reading(uint8_t defined, int64_t integer, int8_t scale, double *value, uint64_t answer[4]);
 

@@ -7,6 +7,7 @@
  *     target/meter 01 02 8f            65.5, which is between two whole numbers
  *     target/meter 01 ff ff            -0.1, whose sign stands in no digit before the point
  *     target/meter 02 19 64            65, a whole number
+ *     target/meter fe 00 03            300, since the scale is -2
  *     target/meter 01 80 00            missing: the lowest integer says that there is none
  */
 #include <stdio.h>

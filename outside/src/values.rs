@@ -72,7 +72,7 @@ pub struct Record {
     pub header: Header,
 }
 
-/// A scaled number: integer / 10^scale.
+/// A scaled number: integer / 10^scale, so integer times 10^-scale where the scale is below 0.
 #[derive(Clone, Copy, Debug, PartialEq, Eq)]
 pub struct Scaled {
     pub integer: i64,

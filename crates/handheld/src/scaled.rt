@@ -143,8 +143,8 @@ fn put_shown(answer: &mut [u64; 4], value: &mut f64, found: Shown)
     }
 }
 
-// The reading of a scaled number: 0, 0, 0 where it is missing, 1 where it is whole, 2 where it is between, 0; the quotient goes into
-// the value.
+// The reading of a scaled number: 0, 0, 0 where it is missing, 1 where it is whole, 2 where it is between, 0; its f64 goes into the
+// value.
 #[no_mangle]
 pub extern "C" fn wl_reading(
     defined: u8,

@@ -1,20 +1,22 @@
--- The laws of the meter's reading: the quotient of two exactly converted integers is the exact fraction, rounded once, and where 10^s
--- divides I it is the conversion of the whole quotient. By the kit's account of IEEE division. Assumes nothing.
+-- The laws of the meter's reading, for the number that I and s stand for: the f64 is the exact fraction, rounded once; where the number is whole it
+-- is the conversion of that whole number; and a product is whole. By the kit's account of IEEE division and conversion. Assumes nothing.
 use mathlib.Core.Path.{_≡_, refl, sym, ap, _∙_, subst}
-use mathlib.Core.Bool.{Bool, true, false}
+use mathlib.Core.Bool.{Bool, true, false, true≢false}
 use Prim.Native.Nat.{ℕ, zero, suc, _*_, _/_, _%_, _^_, _≤_, _<_}
-use native.Mathlib.Nat.{mul-one, mul-comm, mul-assoc, mul-left-comm, mul-pos, div-mul-cancel, dvd-of-mod-eq-zero, pow-le-pow-right, zero-mul}
+use native.Mathlib.Nat.{mul-one, mul-comm, mul-assoc, mul-left-comm, mul-pos, div-mul-cancel, dvd-of-mod-eq-zero, pow-le-pow-right, zero-mul, div-one, mod-one}
 use native.Mathlib.Omega.{arith}
-use borrow.Author.Tests.{ne-eqb}
+use borrow.Author.Tests.{ne-eqb, eq-eqb, eqb-true, ltb-true}
 use lib.Dec.{T, lt→ltb, le→leb, lit<, eqb}
 use lib.IntN.{ℤ, pos, negsuc, negℤ, natAbs}
-use lib.Signed.{quotZ}
+use lib.Signed.{ltZ, quotZ}
 use lib.Ieee.{Float, nan, inf, fin, Format, binary64, up, down, unlike, inFloat, ofInt, div, round}
 use lib.Ieee.Fits.{down-pos}
 use lib.Ieee.Exact.{HasValue}
 use lib.Ieee.Back.{round-whole}
 use lib.Ieee.Scale.{round-same}
-use Rattle.meter.specs.Reading.{quotient}
+use Rattle.meter.specs.Scaled.{isScale, divided, multiplied, standsFor}
+use Rattle.meter.specs.Reading.{quotient, converted, carried, isWhole, shownAs}
+use Rattle.meter.proofs.ScaledLaws.{scale-small}
 use Rattle.meter.proofs.RoundingLaws.{ten-pos}
 
 -- a whole number of at most 2 ^ 53 either way is a value of binary64
@@ -61,15 +63,15 @@ ofInt-value (negsuc n) h = round-whole binary64 true (suc n) h
 pub ten-small : (s : ℕ) → s ≤ 15 → 10 ^ s ≤ 2 ^ 53
 ten-small s h = omega (arith, pow-le-pow-right {n = 10} (lit< tt) {i = s} {j = 15} h)
 
--- ONE ROUNDING of the exact fraction
-pub one-rounding : (i : ℤ) (s : ℕ) → natAbs i ≤ 2 ^ 53 → s ≤ 15 → quotient i s ≡ round binary64 (minus? i) (natAbs i) (10 ^ s)
-one-rounding i s h k =
+-- ---- the quotient
+quotient-rounded : (i : ℤ) (s : ℕ) → natAbs i ≤ 2 ^ 53 → s ≤ 15 → quotient i s ≡ round binary64 (minus? i) (natAbs i) (10 ^ s)
+quotient-rounded i s h k =
     div-whole binary64 (ofInt binary64 i) (ofInt binary64 (pos (10 ^ s))) (minus? i) (natAbs i) (10 ^ s) (ofInt-value i h)
     (ofInt-value (pos (10 ^ s)) (ten-small s k)) (ten-pos s)
 
 exact : (i : ℤ) (s : ℕ) → natAbs i ≤ 2 ^ 53 → s ≤ 15 → natAbs i % 10 ^ s ≡ 0 → quotient i s ≡ round binary64 (minus? i) (natAbs i / 10 ^ s) 1
 exact i s h k e =
-    one-rounding i s h k
+    quotient-rounded i s h k
     ∙ round-same binary64 (minus? i) (natAbs i) (10 ^ s) (natAbs i / 10 ^ s) 1 (ten-pos s) (lit< tt)
     (mul-one (natAbs i) ∙ sym (div-mul-cancel (10 ^ s) (dvd-of-mod-eq-zero (10 ^ s) e)))
 
@@ -82,6 +84,43 @@ whole-int (negsuc n) p e = go (suc n / p) e
     go zero h = absurd (omega (arith, sym (zero-mul p) ∙ h))
     go (suc q) h = refl
 
--- THE EXACT CASE: where 10 ^ s divides I, the quotient is the float of the whole number I / 10 ^ s, with its sign
-pub exact-case : (i : ℤ) (s : ℕ) → natAbs i ≤ 2 ^ 53 → s ≤ 15 → natAbs i % 10 ^ s ≡ 0 → quotient i s ≡ ofInt binary64 (quotZ i (pos (10 ^ s)))
-exact-case i s h k e = exact i s h k e ∙ whole-int i (10 ^ s) (div-mul-cancel (10 ^ s) (dvd-of-mod-eq-zero (10 ^ s) e))
+quotient-exact : (i : ℤ) (s : ℕ) → natAbs i ≤ 2 ^ 53 → s ≤ 15 → natAbs i % 10 ^ s ≡ 0 → quotient i s ≡ ofInt binary64 (quotZ i (pos (10 ^ s)))
+quotient-exact i s h k e = exact i s h k e ∙ whole-int i (10 ^ s) (div-mul-cancel (10 ^ s) (dvd-of-mod-eq-zero (10 ^ s) e))
+
+-- ---- the product
+converted-rounded : (i : ℤ) (k : ℕ) → converted i k ≡ round binary64 (minus? i) (natAbs (multiplied i k .above)) 1
+unfolding ofInt
+converted-rounded (pos n) k = refl
+converted-rounded (negsuc n) k = go (suc n * 10 ^ k) (mul-pos {m = suc n} (omega arith) (ten-pos k))
+  where
+    go : (m : ℕ) → 0 < m → ofInt binary64 (negℤ (pos m)) ≡ round binary64 true (natAbs (negℤ (pos m))) 1
+    go zero l = absurd (omega arith)
+    go (suc m) l = refl
+
+over-one : (z : ℤ) → quotZ z (pos 1) ≡ z
+over-one (pos n) = ap pos (div-one n)
+over-one (negsuc n) = ap (λ (k : ℕ). negℤ (pos k)) (div-one (suc n))
+
+-- WHOLE: a product is
+pub product-whole : (i : ℤ) (k : ℕ) → isWhole (multiplied i k) ≡ true
+product-whole i k = eq-eqb (natAbs (multiplied i k .above) % 1) 0 (mod-one (natAbs (multiplied i k .above)))
+
+-- ---- THE NUMBER that I and s stand for, for either sign of s
+-- ONE ROUNDING of the exact fraction
+pub one-rounding : (i s : ℤ) → isScale s ≡ true → natAbs (standsFor i s .above) ≤ 2 ^ 53 → carried i s ≡ round binary64 (minus? i) (natAbs (standsFor i s .above)) (standsFor i s .below)
+one-rounding i (pos s) e h = quotient-rounded i s h (scale-small (pos s) e)
+one-rounding i (negsuc s) e h = converted-rounded i (suc s)
+
+-- THE EXACT CASE: where the number is whole, the f64 is the float of that whole number, with its sign
+pub exact-case : (i s : ℤ) → isScale s ≡ true → natAbs (standsFor i s .above) ≤ 2 ^ 53 → isWhole (standsFor i s) ≡ true → carried i s ≡ ofInt binary64 (quotZ (standsFor i s .above) (pos (standsFor i s .below)))
+exact-case i (pos s) e h w = quotient-exact i s h (scale-small (pos s) e) (eqb-true (natAbs i % 10 ^ s) 0 w)
+exact-case i (negsuc s) e h w = ap (ofInt binary64) (sym (over-one (multiplied i (suc s) .above)))
+
+-- ---- by the sign of s
+pub shown-below : (i s : ℤ) → ltZ s (pos 0) ≡ true → shownAs (multiplied i (natAbs s)) (converted i (natAbs s)) ≡ shownAs (standsFor i s) (carried i s)
+shown-below i (pos s) t = absurd (omega (arith, ltb-true s 0 t))
+shown-below i (negsuc s) t = refl
+
+pub shown-above : (i s : ℤ) → ltZ s (pos 0) ≡ false → shownAs (divided i (natAbs s)) (quotient i (natAbs s)) ≡ shownAs (standsFor i s) (carried i s)
+shown-above i (pos s) t = refl
+shown-above i (negsuc s) t = absurd (true≢false t)

@@ -99,7 +99,7 @@ none-in-width false n w = let e : topOf n ≤ topOf n = omega arith in (le-leb 0
 small-scale : (s : ℤ) → isScale s ≡ true → mag s < 128
 unfolding isScale
 small-scale (pos k) e = omega (arith, leb-true k 15 e)
-small-scale (negsuc k) e = absurd (true≢false (sym e))
+small-scale (negsuc k) e = omega (arith, leb-true (suc k) 15 e)
 
 first-byte : (a : List ℕ) (n s w : ℕ) → 1 + n ≤ length a → getD (stored (stored a 0 1 s) 1 n w) 0 0 ≡ s % 256
 unfolding stored

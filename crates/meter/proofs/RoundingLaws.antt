@@ -1,18 +1,21 @@
--- The laws of rounding: the powers of ten cancel, the code's test is the definition's, and WHAT NEAREST MEANS: twice the distance is at
--- most the divisor, at a tie the larger is taken, and no other number does that. By the quotient's bounds. Assumes nothing.
+-- The laws of rounding: the powers of ten cancel, the code's tests are the definition's, and WHAT NEAREST MEANS, for the number that I and s stand
+-- for: twice the distance is at most the divisor, at a tie the larger is taken, and no other number does that; a product is its own nearest. By
+-- the quotient's bounds. Assumes nothing.
 use mathlib.Core.Path.{_≡_, refl, sym, ap, _∙_}
 use mathlib.Core.Bool.{Bool, true, false, true≢false}
 use Prim.Native.Nat.{ℕ, zero, suc, _+_, _-_, _*_, _/_, _%_, _^_, _≤_, _<_}
-use native.Mathlib.Nat.{mul-one, one-mul, mul-assoc, mul-left-comm, add-mul, mod-lt, div-add-mod', div-eq-of-lt-le, mul-div-mul-right, one-le-pow, pow-le-pow-right, div-le-of-le-mul, mul-le-mul-right, mul-add}
+use native.Mathlib.Nat.{mul-one, one-mul, mul-assoc, mul-left-comm, add-mul, mod-lt, div-add-mod', div-eq-of-lt-le, mul-div-mul-right, one-le-pow, pow-le-pow-right, div-le-of-le-mul, mul-le-mul-right, mul-add, mul-pos}
 use native.Mathlib.Omega.{arith}
 use borrow.Author.Tests.{lt-ltb, le-ltb, ltb-true}
 use lib.Dec.{lit<, ltb}
-use lib.IntN.{ℤ, pos, negsuc, negℤ, natAbs}
+use lib.IntN.{ℤ, pos, negsuc, negℤ, natAbs, _*ℤ_}
 use lib.Pow.{pow-add}
 use lib.Signed.{ltZ, mag}
 use Rattle.calendar.specs.Said.{answer, refusal}
-use Rattle.meter.specs.Rounding.{near, withSign, whole64, signedOf}
+use Rattle.meter.specs.Scaled.{divided, multiplied, standsFor}
+use Rattle.meter.specs.Rounding.{near, withSign, whole64, signedOf, nearestTo}
 use Rattle.meter.specs.declared.scaled.Decimal.the-variants as D
+use Rattle.meter.proofs.Signs.{size-times}
 
 two : (q p : ℕ) → q * (2 * p) ≡ 2 * (q * p)
 two q p = mul-left-comm q 2 p
@@ -37,7 +40,11 @@ near-high a b h = omega (arith, two (near a b) b, div-add-mod' (2 * a + b) (2 * 
 abbrev pub distance : ℕ → ℕ → ℕ
 distance x y = (x - y) + (y - x)
 
-pub nearest : (a b : ℕ) → 0 < b → (2 * distance (near a b * b) a ≤ b) × (2 * distance (near a b * b) a ≡ b → a < near a b * b)
+-- k times b is within half of b from a, and above a at a tie
+abbrev pub IsNearest : ℕ → ℕ → ℕ → Type 0
+IsNearest a b k = (2 * distance (k * b) a ≤ b) × (2 * distance (k * b) a ≡ b → a < k * b)
+
+pub nearest : (a b : ℕ) → 0 < b → IsNearest a b (near a b)
 nearest a b h = (omega (arith, near-low a b h, near-high a b h), λ e. omega (arith, near-low a b h, near-high a b h))
 
 -- ---- the code's test
@@ -75,6 +82,10 @@ near-cancels m d s h =
     let e : 2 * (m * P) + t * P ≡ (2 * m + t) * P = ap (λ (k : ℕ). k + t * P) (sym (mul-assoc 2 m P)) ∙ sym (add-mul (2 * m) t P) in
     let g : 2 * (t * P) ≡ 2 * t * P = sym (mul-assoc 2 t P) in
     ap (λ (k : ℕ). near (m * P) k) (split s d h) ∙ rw (e, g) (mul-div-mul-right {m = P} (2 * m + t) (2 * t) (ten-pos d))
+
+-- a whole number is its own nearest
+pub near-one : (a : ℕ) → near a 1 ≡ a
+near-one a = near-only a 1 a (omega (arith, mul-one a)) (omega (arith, mul-one a))
 
 pub near-half : (m p : ℕ) → 2 ≤ p → near m p ≤ m / 2 + 1
 unfolding near
@@ -115,3 +126,37 @@ unfolding whole64 withSign
 large i zero h = absurd (omega arith)
 large (pos n) (suc k) h = simp (le-ltb (suc k) (2 ^ 63) (omega arith))
 large (negsuc n) (suc k) h = simp (le-ltb k (2 ^ 63) (omega arith))
+
+-- ---- THE NUMBER that I and s stand for
+pub below-pos : (i s : ℤ) → 0 < standsFor i s .below
+below-pos i (pos s) = ten-pos s
+below-pos i (negsuc s) = lit< tt
+
+-- for either sign of s, what it rounds to is nearest to it
+pub nearest-number : (i s : ℤ) (d : ℕ) → IsNearest (natAbs (standsFor i s .above) * 10 ^ d) (standsFor i s .below) (near (natAbs (standsFor i s .above) * 10 ^ d) (standsFor i s .below))
+nearest-number i s d = nearest (natAbs (standsFor i s .above) * 10 ^ d) (standsFor i s .below) (below-pos i s)
+
+sign-times : (i : ℤ) (p r : ℕ) → 0 < p → withSign (i *ℤ pos p) r ≡ withSign i r
+unfolding withSign
+sign-times (pos n) p r h = refl
+sign-times (negsuc n) p r h = go (suc n * p) (mul-pos {m = suc n} (omega arith) h)
+  where
+    go : (m : ℕ) → 0 < m → withSign (negℤ (pos m)) r ≡ negℤ (pos r)
+    go zero l = absurd (omega arith)
+    go (suc m) l = refl
+
+-- a product is not rounded
+pub nearest-product : (i : ℤ) (d k : ℕ) → nearestTo (multiplied i k) d ≡ signedOf i (natAbs i * 10 ^ k * 10 ^ d)
+nearest-product i d k =
+    let p = 10 ^ k in
+    ap whole64 (sign-times i p (near (natAbs (i *ℤ pos p) * 10 ^ d) 1) (ten-pos k))
+    ∙ ap (signedOf i) (near-one (natAbs (i *ℤ pos p) * 10 ^ d) ∙ ap (λ (m : ℕ). m * 10 ^ d) (size-times i p))
+
+-- by the sign of s
+pub nearest-below : (i s : ℤ) (d : ℕ) → ltZ s (pos 0) ≡ true → nearestTo (multiplied i (natAbs s)) d ≡ nearestTo (standsFor i s) d
+nearest-below i (pos s) d t = absurd (omega (arith, ltb-true s 0 t))
+nearest-below i (negsuc s) d t = refl
+
+pub nearest-above : (i s : ℤ) (d : ℕ) → ltZ s (pos 0) ≡ false → nearestTo (divided i (natAbs s)) d ≡ nearestTo (standsFor i s) d
+nearest-above i (pos s) d t = refl
+nearest-above i (negsuc s) d t = absurd (true≢false t)

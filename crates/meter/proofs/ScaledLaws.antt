@@ -6,12 +6,12 @@ use mathlib.Core.List.{List}
 use Prim.Native.Nat.{ℕ, zero, suc, _+_, _-_, _*_, _^_, _%_, _≤_, _<_}
 use native.Mathlib.Omega.{arith}
 use borrow.Author.Tests.{lt-ltb, le-ltb, ltb-true, ltb-false, leb-true, leb-false, le-leb, lt-leb, eqb-true, eqb-false, eq-eqb, ne-eqb}
-use lib.Dec.{T, eqb, leb, ltb}
+use lib.Dec.{eqb, leb, ltb}
 use lib.IntN.{ℤ, pos, negsuc, natAbs}
 use lib.ListN.{getD}
-use lib.Signed.{mag, ltZ, leZ, nonNeg}
+use lib.Signed.{mag, ltZ, leZ}
 use mir.Syntax.{w8, w64}
-use mir.Val.{Fits, SFits, toZ, ofZ}
+use mir.Val.{SFits, toZ, ofZ}
 use mir.ValLaws.{toZ-ofZ}
 use Rattle.calendar.specs.Said.{Said, answer, refusal}
 use Rattle.meter.specs.Lent.{inside}
@@ -22,7 +22,7 @@ use Rattle.meter.specs.declared.scaled.Scaled.{Scaled}
 use Rattle.meter.specs.declared.scaled.Scaled.the-variants as S
 use Rattle.meter.proofs.IntegerLaws.{Wide, twos-low, twos-high}
 
--- ---- decimals and scales, by the code's two tests
+-- ---- decimals, by the code's two tests, and scales
 module _ (z : ℤ) (f : SFits w8 z) where
   pub decimals-below : ltZ (toZ w8 (ofZ w8 z)) (pos 0) ≡ true → isDecimals z ≡ false
   unfolding isDecimals
@@ -40,27 +40,14 @@ module _ (z : ℤ) (f : SFits w8 z) where
       go (pos n) t = refl
       go (negsuc n) t = absurd (true≢false t)
 
-  pub decimals-fit : isDecimals z ≡ true → T (nonNeg (toZ w8 (ofZ w8 z))) × Fits w64 (natAbs (toZ w8 (ofZ w8 z)))
-  unfolding isDecimals
-  decimals-fit t = subst (λ (y : ℤ). T (nonNeg y) × Fits w64 (natAbs y)) (sym (toZ-ofZ w8 z f)) (go z f t)
-    where
-      go : (z : ℤ) → SFits w8 z → isDecimals z ≡ true → T (nonNeg z) × Fits w64 (natAbs z)
-      go (pos n) f t = (tt, omega (arith, f .sfits))
-      go (negsuc n) f t = absurd (true≢false (sym t))
-
 pub decimals-small : (z : ℤ) → isDecimals z ≡ true → natAbs z ≤ 15
 unfolding isDecimals
 decimals-small (pos n) t = leb-true n 15 t
 decimals-small (negsuc n) t = absurd (true≢false (sym t))
 
--- today's scales are the decimals that can be asked for
-pub scale-is : (z : ℤ) → isDecimals z ≡ isScale z
-unfolding isDecimals isScale
-scale-is (pos n) = refl
-scale-is (negsuc n) = refl
-
-pub scale-decimals : (z : ℤ) → isScale z ≡ true → isDecimals z ≡ true
-scale-decimals z e = scale-is z ∙ e
+pub scale-small : (z : ℤ) → isScale z ≡ true → natAbs z ≤ 15
+unfolding isScale
+scale-small z t = leb-true (natAbs z) 15 t
 
 -- ---- the undefined integer
 pub same-self : (i : ℤ) → same i i ≡ true

@@ -1,15 +1,15 @@
--- Signed numbers as the machine has them: a test and a difference on an i64 z speak of `toZ w64 (ofZ w64 z)`, which is z where it fits.
--- By cases on the sign. Assumes nothing.
+-- Signed numbers as the machine has them: a test, a difference and a product on an i64 z speak of `toZ w64 (ofZ w64 z)`, which is z where it
+-- fits. By cases on the sign. Assumes nothing.
 use mathlib.Core.Path.{_≡_, refl, sym, ap, _∙_, subst}
 use mathlib.Core.Bool.{Bool, true, false, true≢false}
-use Prim.Native.Nat.{ℕ, zero, suc, _+_, _-_, _^_, _≤_, _<_}
+use Prim.Native.Nat.{ℕ, zero, suc, _+_, _-_, _*_, _^_, _≤_, _<_}
 use native.Mathlib.Nat.{zero-add}
 use native.Mathlib.Omega.{arith}
 use borrow.Author.Tests.{le-ltb, ltb-true}
 use lib.Dec.{T}
-use lib.IntN.{ℤ, pos, negsuc, natAbs, _-ℤ_}
+use lib.IntN.{ℤ, pos, negsuc, negℤ, natAbs, _-ℤ_, _*ℤ_}
 use lib.Signed.{ltZ, nonNeg}
-use mir.Syntax.{w64}
+use mir.Syntax.{Width, w8, w64}
 use mir.Val.{Fits, SFits, toZ, ofZ}
 use mir.ValLaws.{toZ-ofZ, toZ-pos}
 
@@ -17,10 +17,13 @@ use mir.ValLaws.{toZ-ofZ, toZ-pos}
 abbrev pub less : ℤ → ℤ
 less z = negsuc 0 -ℤ toZ w64 (ofZ w64 z)
 
-module _ (z : ℤ) (f : SFits w64 z) (b : Bool) (t : ltZ (toZ w64 (ofZ w64 z)) (pos 0) ≡ b) where
-  -- the test `z < 0` is one of z
-  pub tested : ltZ z (pos 0) ≡ b
-  tested = ap (λ (y : ℤ). ltZ y (pos 0)) (sym (toZ-ofZ w64 z f)) ∙ t
+-- the test `z < 0` is one of z, at each width
+pub tested : {w : Width} (z : ℤ) → SFits w z → (b : Bool) → ltZ (toZ w (ofZ w z)) (pos 0) ≡ b → ltZ z (pos 0) ≡ b
+tested {w} z f b t = ap (λ (y : ℤ). ltZ y (pos 0)) (sym (toZ-ofZ w z f)) ∙ t
+
+-- an i8 as an i64
+pub widen : (z : ℤ) → SFits w8 z → SFits w64 (toZ w8 (ofZ w8 z))
+widen z f = subst (λ (y : ℤ). SFits w64 y) (sym (toZ-ofZ w8 z f)) (record { sfits = omega (arith, f .sfits) })
 
 module _ (z : ℤ) (f : SFits w64 z) (t : ltZ (toZ w64 (ofZ w64 z)) (pos 0) ≡ true) where
   pub size-pos : 0 < natAbs z
@@ -67,3 +70,17 @@ below-zero m h = ap (λ (z : ℤ). negsuc 0 -ℤ z) (toZ-pos w64 m h) ∙ minus-
 
 pub below-zero-fits : (m : ℕ) → m < 2 ^ 63 → SFits w64 (negsuc 0 -ℤ toZ w64 m)
 below-zero-fits m h = subst (λ (z : ℤ). SFits w64 z) (sym (below-zero m h)) (record { sfits = h })
+
+-- ---- a product with a size
+size-below : (m : ℕ) → natAbs (negℤ (pos m)) ≡ m
+size-below zero = refl
+size-below (suc m) = refl
+
+pub size-times : (z : ℤ) (p : ℕ) → natAbs (z *ℤ pos p) ≡ natAbs z * p
+size-times (pos n) p = refl
+size-times (negsuc n) p = size-below (suc n * p)
+
+-- a number of a small size fits
+pub small-fits : (z : ℤ) → natAbs z < 2 ^ 63 → SFits w64 z
+small-fits (pos n) h = record { sfits = h }
+small-fits (negsuc n) h = record { sfits = omega arith }

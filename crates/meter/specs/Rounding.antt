@@ -1,12 +1,13 @@
 -- Rounding (01, "Times and scaled numbers": "Rounded to d decimals (0..15, else 21, for undefined too): the whole M nearest to
--- I·10^d / 10^s, a tie going away from zero, refused 21 if M leaves the signed 64-bit range"). Over unbounded integers. Assumes nothing.
+-- I·10^d / 10^s, a tie going away from zero, refused 21 if M leaves the signed 64-bit range"; 02, request Five: "Rounding keeps its rule and
+-- refusal 21 covers results out of range"). Over unbounded integers. Assumes nothing.
 use Prim.Native.Nat.{ℕ, _+_, _*_, _/_, _^_}
 use mathlib.Core.Bool.{Bool, true, false, cond}
 use lib.Dec.{leb, ltb}
 use lib.IntN.{ℤ, pos, negsuc, negℤ, natAbs}
 use lib.Signed.{mag}
 use Rattle.calendar.specs.Said.{Said, answer, refusal, refused}
-use Rattle.meter.specs.Scaled.{isScale}
+use Rattle.meter.specs.Scaled.{Fraction, isScale, standsFor}
 use Rattle.meter.specs.declared.scaled.Scaled.{Scaled}
 use Rattle.meter.specs.declared.scaled.Scaled.the-variants as S
 use Rattle.meter.specs.declared.scaled.Decimal.{Decimal}
@@ -35,14 +36,14 @@ whole64 z = cond (ltb (mag z) 0x8000_0000_0000_0000) (answer (D.Whole z)) (refus
 abbrev pub signedOf : ℤ → ℕ → Said Decimal
 signedOf i r = whole64 (withSign i r)
 
--- I * 10 ^ d / 10 ^ s, rounded
-abbrev pub nearestOf : ℤ → ℕ → ℕ → Said Decimal
-nearestOf i d s = signedOf i (near (natAbs i * 10 ^ d) (10 ^ s))
+-- the number times 10 ^ d, rounded
+abbrev pub nearestTo : Fraction → ℕ → Said Decimal
+nearestTo x d = signedOf (x .above) (near (natAbs (x .above) * 10 ^ d) (x .below))
 
 -- THE ROUNDING
 abbrev pub rounding : Scaled → ℕ → Said Decimal
 rounding S.Undefined d = answer D.Undefined
-rounding (S.Number i s) d = cond (isScale s) (nearestOf i d (natAbs s)) (refusal 21 0)
+rounding (S.Number i s) d = cond (isScale s) (nearestTo (standsFor i s) d) (refusal 21 0)
 
 abbrev pub roundedOf : Scaled → ℤ → Said Decimal
 roundedOf x d = cond (isDecimals d) (rounding x (natAbs d)) (refusal 21 0)

@@ -1,10 +1,11 @@
 -- Scaled numbers (01, "Times and scaled numbers": "a signed scale byte s, then a signed or unsigned integer I of 2, 4 or 8 bytes: I / 10^s.
--- Undefined is the lowest signed or highest unsigned I, whatever s. Otherwise accepted: s 0..15, I below 2^63"). Assumes nothing.
-use Prim.Native.Nat.{ℕ, _+_, _-_}
+-- Undefined is the lowest signed or highest unsigned I, whatever s. Otherwise accepted: s 0..15, I below 2^63"; 02, request Five: "Accept s
+-- from -15 to 15; the number is then I times 10^-s"). Assumes nothing.
+use Prim.Native.Nat.{ℕ, suc, _+_, _-_, _^_}
 use mathlib.Core.Bool.{Bool, true, false, cond, not, _&&_, _||_}
 use mathlib.Core.List.{List}
 use lib.Dec.{eqb, leb}
-use lib.IntN.{ℤ, pos, negsuc}
+use lib.IntN.{ℤ, pos, negsuc, natAbs, _*ℤ_}
 use lib.ListN.{getD}
 use lib.Signed.{ltZ, leZ}
 use Rattle.calendar.specs.Said.{Said, answer, refusal, refused}
@@ -16,10 +17,27 @@ use Rattle.meter.specs.declared.scaled.Scaled.the-variants as S
 use Rattle.meter.specs.declared.scaled.ScaledRead.{ScaledRead}
 use Rattle.meter.specs.declared.scaled.ScaledRead.the-variants as R
 
--- the allowed scales: 0 to 15
+-- the allowed scales: -15 to 15
 unfoldable pub isScale : ℤ → Bool
-isScale (pos s) = leb s 15
-isScale (negsuc s) = false
+isScale s = leb (natAbs s) 15
+
+-- ---- THE NUMBER that I and s stand for, over unbounded integers: a fraction
+pub record Fraction : Type 0 where
+  pub above : ℤ
+  pub below : ℕ
+
+-- I / 10 ^ s
+abbrev pub divided : ℤ → ℕ → Fraction
+divided i s = record { above = i; below = 10 ^ s }
+
+-- I times 10 ^ k
+abbrev pub multiplied : ℤ → ℕ → Fraction
+multiplied i k = record { above = i *ℤ pos (10 ^ k); below = 1 }
+
+-- by the sign of s
+abbrev pub standsFor : ℤ → ℤ → Fraction
+standsFor i (pos s) = divided i s
+standsFor i (negsuc s) = multiplied i (suc s)
 
 -- the lowest and the highest integer of n bytes
 unfoldable pub lowest : Bool → ℕ → ℤ

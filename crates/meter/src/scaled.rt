@@ -1,18 +1,19 @@
-// Scaled numbers: a signed scale byte s and an integer I of 2, 4 or 8 bytes stand for I / 10^s. Read, written, rounded to decimals,
-// and shown by a meter.
+// Scaled numbers: a signed scale byte s and an integer I of 2, 4 or 8 bytes stand for I / 10^s, which is I * 10^-s where s is below 0.
+// Read, written, rounded to decimals, and shown by a meter.
 use crate::integer::Written;
 use calendar::Refusal;
 ghost use mathlib.Core.Path.{_≡_};
 ghost use mathlib.Core.Bool.{true, false};
-ghost use Prim.Native.Nat.{_+_, _^_, _≤_, _<_};
+ghost use Prim.Native.Nat.{_+_, _*_, _^_, _≤_, _<_};
 ghost use lib.Dec.{leb};
 ghost use lib.ListN.{length};
 ghost use lib.IntN.{natAbs};
 ghost use Rattle.meter.specs.Integer.{isWidth, twos, wordOf};
-ghost use Rattle.meter.specs.Scaled.{isScale, noneOf, isNoneWord, definedOf, scaledReadAt, saidScaled};
+ghost use Rattle.meter.specs.Scaled.{isScale, divided, multiplied, standsFor};
+ghost use Rattle.meter.specs.Scaled.{noneOf, isNoneWord, definedOf, scaledReadAt, saidScaled};
 ghost use Rattle.meter.specs.Scaled.{fitsDefined, WritesParts, WritesScaled};
-ghost use Rattle.meter.specs.Rounding.{isDecimals, near, signedOf, nearestOf, roundedOf, saidRounded};
-ghost use Rattle.meter.specs.Reading.{readingOf, saidReading};
+ghost use Rattle.meter.specs.Rounding.{isDecimals, near, signedOf, nearestTo, roundedOf, saidRounded};
+ghost use Rattle.meter.specs.Reading.{quotient, converted, carried, shownAs, readingOf, saidReading};
 
 pub enum Scaled {
     Undefined,
@@ -82,18 +83,17 @@ fn is_decimals(decimals: i8) -> bool
     decimals <= 15
 }
 
+// The exponent of ten that decimals or a scale stand for, above or below the line.
+fn exponent_of(decimals: i8) -> usize
+    ensures { λ r. ⌜ r ≡ natAbs decimals ⌝ }
+{
+    crate::integer::size_of(decimals as i64) as usize
+}
+
 fn is_scale(scale: i8) -> bool
     ensures { λ r. ⌜ r ≡ isScale scale ⌝ }
 {
-    is_decimals(scale)
-}
-
-// The exponent of ten that decimals or a scale stand for.
-fn exponent_of(decimals: i8) -> usize
-    requires { ⌜ isDecimals decimals ≡ true ⌝ }
-    ensures { λ r. ⌜ r ≡ natAbs decimals ⌝ }
-{
-    decimals as usize
+    exponent_of(scale) <= 15
 }
 
 // The scale byte and the n bytes after it lie within `len`.
@@ -273,24 +273,59 @@ fn with_sign(integer: i64, size: u64) -> Rounded
     Rounded::Decimal(Decimal::Whole(size as i64))
 }
 
-// I * 10^d / 10^s to the nearest whole number: one of the two powers cancels the other, so 64 bits are enough.
-fn nearest(integer: i64, d: usize, s: usize) -> Rounded
+// `size` * 10^exponent with the sign of `integer`. The product is tested before it is made, so 64 bits are enough.
+fn grown(integer: i64, size: u64, exponent: usize) -> Rounded
+    requires { ⌜ exponent ≤ 15 ⌝ }
+    ensures { λ r. ⌜ saidRounded r ≡ signedOf integer (size * 10 ^ exponent) ⌝ }
+{
+    let t = power(exponent);
+    if size > 0x8000_0000_0000_0000 / t {
+        return Rounded::Refused(Refusal {
+            number: 21,
+            place: 0,
+        });
+    }
+    with_sign(integer, size * t)
+}
+
+// I / 10^s times 10^d to the nearest whole number: one of the two powers cancels the other.
+fn nearest_quotient(integer: i64, d: usize, s: usize) -> Rounded
     requires { ⌜ (d ≤ 15) × (s ≤ 15) ⌝ }
-    ensures { λ r. ⌜ saidRounded r ≡ nearestOf integer d s ⌝ }
+    ensures { λ r. ⌜ saidRounded r ≡ nearestTo (divided integer s) d ⌝ }
 {
     let m = crate::integer::size_of(integer);
     if s <= d {
-        let t = power(d - s);
-        if m > 0x8000_0000_0000_0000 / t {
-            return Rounded::Refused(Refusal {
-                number: 21,
-                place: 0,
-            });
-        }
-        return with_sign(integer, m * t);
+        return grown(integer, m, d - s);
     }
     let p = power(s - d);
     with_sign(integer, near_to(m, p))
+}
+
+// I * 10^k times 10^d, which is whole: two products, each tested before it is made.
+fn nearest_product(integer: i64, d: usize, k: usize) -> Rounded
+    requires { ⌜ (d ≤ 15) × (k ≤ 15) ⌝ }
+    ensures { λ r. ⌜ saidRounded r ≡ nearestTo (multiplied integer k) d ⌝ }
+{
+    let m = crate::integer::size_of(integer);
+    let p = power(k);
+    if m > 0x8000_0000_0000_0000 / p {
+        return Rounded::Refused(Refusal {
+            number: 21,
+            place: 0,
+        });
+    }
+    grown(integer, m * p, d)
+}
+
+// By the sign of the scale.
+fn nearest(integer: i64, scale: i8, d: usize) -> Rounded
+    requires { ⌜ (isScale scale ≡ true) × (d ≤ 15) ⌝ }
+    ensures { λ r. ⌜ saidRounded r ≡ nearestTo (standsFor integer scale) d ⌝ }
+{
+    if scale < 0 {
+        return nearest_product(integer, d, exponent_of(scale));
+    }
+    nearest_quotient(integer, d, exponent_of(scale))
 }
 
 pub fn round_to(number: Scaled, decimals: i8) -> Rounded
@@ -311,12 +346,60 @@ pub fn round_to(number: Scaled, decimals: i8) -> Rounded
                     place: 0,
                 });
             }
-            nearest(integer, exponent_of(decimals), exponent_of(scale))
+            nearest(integer, scale, exponent_of(decimals))
         }
     }
 }
 
-// The reading that a meter shows: one division of two numbers that an f64 holds exactly.
+// I / 10^s: one division of two numbers that an f64 holds exactly.
+fn show_quotient(integer: i64, s: usize) -> Shown
+    requires { ⌜ s ≤ 15 ⌝ }
+    ensures { λ r. ⌜ saidReading r ≡ shownAs (divided integer s) (quotient integer s) ⌝ }
+{
+    let m = crate::integer::size_of(integer);
+    if m > 0x20_0000_0000_0000 {
+        return Shown::Refused(Refusal {
+            number: 21,
+            place: 0,
+        });
+    }
+    let p = power(s);
+    let q = (integer as f64) / (p as f64);
+    if m % p == 0 {
+        Shown::Reading(Reading::Whole(q))
+    } else {
+        Shown::Reading(Reading::Between(q))
+    }
+}
+
+// I * 10^k, which is whole: tested before it is made, and one conversion of a number that an f64 holds exactly.
+fn show_product(integer: i64, k: usize) -> Shown
+    requires { ⌜ k ≤ 15 ⌝ }
+    ensures { λ r. ⌜ saidReading r ≡ shownAs (multiplied integer k) (converted integer k) ⌝ }
+{
+    let p = power(k);
+    if crate::integer::size_of(integer) > 0x20_0000_0000_0000 / p {
+        return Shown::Refused(Refusal {
+            number: 21,
+            place: 0,
+        });
+    }
+    let product = integer * (p as i64);
+    Shown::Reading(Reading::Whole(product as f64))
+}
+
+// By the sign of the scale.
+fn show_number(integer: i64, scale: i8) -> Shown
+    requires { ⌜ isScale scale ≡ true ⌝ }
+    ensures { λ r. ⌜ saidReading r ≡ shownAs (standsFor integer scale) (carried integer scale) ⌝ }
+{
+    if scale < 0 {
+        return show_product(integer, exponent_of(scale));
+    }
+    show_quotient(integer, exponent_of(scale))
+}
+
+// The reading that a meter shows.
 pub fn reading_of(number: Scaled) -> Shown
     ensures { λ r. ⌜ saidReading r ≡ readingOf number ⌝ }
 {
@@ -329,18 +412,5 @@ pub fn reading_of(number: Scaled) -> Shown
             place: 0,
         });
     }
-    let m = crate::integer::size_of(integer);
-    if m > 0x20_0000_0000_0000 {
-        return Shown::Refused(Refusal {
-            number: 21,
-            place: 0,
-        });
-    }
-    let p = power(exponent_of(scale));
-    let q = (integer as f64) / (p as f64);
-    if m % p == 0 {
-        Shown::Reading(Reading::Whole(q))
-    } else {
-        Shown::Reading(Reading::Between(q))
-    }
+    show_number(integer, scale)
 }

@@ -4,11 +4,11 @@ use outside::generate::{build, shape, Rng};
 use outside::lines::{Kind, LINES, STARTS};
 use outside::values::Which;
 
-/// Where a case has the answer of request Two beside the one before it, the former holds.
+/// Where a case has the answer of request Two or of request Five beside the one before it, the former holds.
 #[track_caller]
 fn check(case: &Json, key: &str, ours: String) {
-    let with_leap = case.get(&format!("leap_{key}")).or(case.get("leap"));
-    assert_eq!(ours, with_leap.or(case.get(key)).unwrap().to_string(), "{key} of {case}");
+    let later = case.get(&format!("leap_{key}")).or(case.get("leap")).or(case.get("wide"));
+    assert_eq!(ours, later.or(case.get(key)).unwrap().to_string(), "{key} of {case}");
 }
 
 /// A case of bytes, text or order.
@@ -78,8 +78,18 @@ fn time_fields(product: &[u8], case: &Json) -> usize {
 
 #[test]
 fn scaled() {
+    assert_eq!(scaled_numbers(cases("leaves/scaled.jsonl", 8120)), 63);
+}
+
+#[test]
+fn five() {
+    assert_eq!(scaled_numbers(cases("requests/five.jsonl", 400)), 0);
+}
+
+/// Gives how many have an integer that no i64 holds.
+fn scaled_numbers(cases: Vec<Json>) -> usize {
     let mut beyond = 0;
-    for case in cases("leaves/scaled.jsonl", 8120) {
+    for case in cases {
         let number = |key: &str| case.get(key).unwrap().number();
         let width = || number("width") as usize;
         let signed = || case.get("signed").unwrap().to_string() == "true";
@@ -105,7 +115,7 @@ fn scaled() {
         };
         check(&case, "answer", ours);
     }
-    assert_eq!(beyond, 63);
+    beyond
 }
 
 #[test]

@@ -1,4 +1,4 @@
-//! The leaves, and with the feature the boundary, against the vectors in VECTORS/leaves and those of request Two. Where the two disagree,
+//! The leaves, and with the feature the boundary, against the vectors in VECTORS/leaves and those of requests Two and Five. Where the two disagree,
 //! this says which of them the vectors are with.
 use outside::json::Json;
 use outside::values::{GroundPoint, Header, Moment, Reading, Refusal, Scaled, Time};

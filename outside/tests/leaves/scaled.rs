@@ -29,8 +29,18 @@ fn any_width(rng: &mut Rng) -> usize {
     }
 }
 
-/// 0..15, and now and then another.
+/// -15..15, and now and then another.
 fn any_scale(rng: &mut Rng) -> i8 {
+    let any = rng.next() as i8;
+    match rng.below(8) {
+        0 => rng.pick(&[-16, 16, -17, 17, 127, -128, any]),
+        1 => rng.pick(&[-15, -1, 0, 15]),
+        _ => rng.below(31) as i8 - 15,
+    }
+}
+
+/// 0..15, and now and then another.
+fn any_decimals(rng: &mut Rng) -> i8 {
     let any = rng.next() as i8;
     match rng.below(8) {
         0 => rng.pick(&[-1, 16, 17, 127, -128, -15, any]),
@@ -103,8 +113,12 @@ fn write_scaled() {
     seen.complete(&["defined", "undefined"], &[18, 21]);
 }
 
-/// Beside a tie: an odd number of halves of 10^(s - d).
-fn beside_tie(rng: &mut Rng, scale: i8, decimals: i8) -> Option<i64> {
+/// Beside a tie: an odd number of halves of 10^(s - d). Where s is at most d, beside 2^63 / 10^(d - s), the last that is not too large.
+fn beside_edge(rng: &mut Rng, scale: i8, decimals: i8) -> Option<i64> {
+    if scale <= decimals {
+        let last = 2f64.powi(63) / 10f64.powi(decimals as i32 - scale as i32);
+        return (last as i64 + rng.below(5) as i64 - 2).checked_mul(rng.pick(&[1, -1]));
+    }
     let halves = 5 * 10i64.checked_pow((scale as i32 - decimals as i32 - 1).try_into().ok()?)?;
     let odd = 2 * (rng.below(1000) as i64 - 500) + 1;
     halves.checked_mul(odd)?.checked_add(rng.pick(&[-1, 0, 0, 1]))
@@ -114,16 +128,16 @@ fn beside_tie(rng: &mut Rng, scale: i8, decimals: i8) -> Option<i64> {
 fn round() {
     let (mut rng, mut seen) = (Rng(23), Seen::of("wl_round"));
     for _ in 0..cases(CASES) {
-        let (mut flat, decimals) = (any_scaled(&mut rng), any_scale(&mut rng));
+        let (mut flat, decimals) = (any_scaled(&mut rng), any_decimals(&mut rng));
         if rng.one_in(3) {
-            flat.1 = beside_tie(&mut rng, flat.2, decimals).unwrap_or(flat.1);
+            flat.1 = beside_edge(&mut rng, flat.2, decimals).unwrap_or(flat.1);
         }
         let ours = leaves::round(value(flat), decimals);
         assert_eq!(boundary::round(value(flat), decimals), ours, "{flat:?} {decimals}");
         assert_eq!(form::number(raw::round(flat, decimals)), ours, "{flat:?} {decimals}");
-        seen.note(&ours, name);
+        seen.note(&ours, |units| if units.is_some() && flat.2 < 0 { "product" } else { name(units) });
     }
-    seen.complete(&["defined", "undefined"], &[21]);
+    seen.complete(&["defined", "product", "undefined"], &[21]);
 }
 
 /// The case of a reading and the bits of its value.
@@ -152,14 +166,16 @@ fn reading() {
     for _ in 0..cases(CASES) {
         let mut flat = any_scaled(&mut rng);
         if rng.one_in(3) {
-            // Whole, or one beside it.
-            let power = 10i64.pow(flat.2.clamp(0, 15) as u32);
-            flat.1 = power.wrapping_mul(rng.below(20) as i64 - 10).wrapping_add(rng.pick(&[0, 0, 1, -1]));
+            // Whole, or one beside it; or a product beside 2^53.
+            let power = 10i64.pow(flat.2.unsigned_abs().min(15) as u32);
+            let whole = if flat.2 < 0 { (1 << 53) / power * rng.pick(&[1, -1]) } else { power.wrapping_mul(rng.below(20) as i64 - 10) };
+            flat.1 = whole.wrapping_add(rng.pick(&[0, 0, 1, -1]));
         }
         let ours = leaves::reading(value(flat)).map(bits);
         assert_eq!(boundary::reading(value(flat)).map(bits), ours, "{flat:?}");
         assert_eq!(direct_reading(flat, rng.next()), ours, "{flat:?}");
-        seen.note(&ours, |reading| ["missing", "whole", "between"][reading.0 as usize]);
+        let product = flat.2 < 0;
+        seen.note(&ours, |reading| if product && reading.0 == 1 { "product" } else { ["missing", "whole", "between"][reading.0 as usize] });
     }
-    seen.complete(&["missing", "whole", "between"], &[21]);
+    seen.complete(&["missing", "whole", "between", "product"], &[21]);
 }

@@ -1,18 +1,17 @@
 -- `meter::scaled::round_to` meets its contract: the decimals, the number taken apart, then its scale. Assumes nothing.
-use Rattle.meter.specs.declared.scaled.Scaled.the-variants as S
 use Rattle.meter.specs.declared.scaled.Scaled.{Scaled}
-use Rattle.meter.proofs.ScaledLaws.{scale-decimals, decimals-small}
-use Rattle.meter.specs.Rounding.{isDecimals, nearestOf, roundedOf}
-use Rattle.meter.specs.Scaled.{isScale}
-use Rattle.calendar.specs.Said.{answer, refusal}
+use Rattle.meter.proofs.ScaledLaws.{decimals-small}
+use Rattle.meter.specs.Rounding.{isDecimals, nearestTo, roundedOf}
+use Rattle.meter.specs.Scaled.{isScale, standsFor}
+use mir.Val.{toZ, ofZ}
 use mir.ValLaws.{toZ-ofZ}
 use mir.Syntax.{w8, w64}
 use lib.IntN.{ℤ, natAbs}
 use Prim.Native.Nat.{ℕ}
 use native.Mathlib.Omega.{arith}
-use borrow.Author.Tests.{not-true, not-false, leb-true, le-leb, lt-leb, lt-ltb, le-ltb, eq-eqb, ne-eqb}
-use mathlib.Core.Bool.{Bool, true, false, cond, _&&_}
-use mathlib.Core.Path.{_≡_, refl, sym, ap, _∙_, subst}
+use borrow.Author.Tests.{not-true, not-false}
+use mathlib.Core.Bool.{true, false}
+use mathlib.Core.Path.{_≡_, sym, ap, _∙_}
 use borrow.Author.Needs.{needs}
 use Rattle.meter.proofs.scaled.round_to.Statement.{statement}
 use Rattle.meter.proofs.scaled.round_to.Tie as tie
@@ -22,8 +21,8 @@ is-decimals-requires c κs = search needs
 
 returns : tie.Need-returns
 returns c =
-    let dz = toZ-ofZ w8 (c .before .before .args .decimals) (c .before .before .fits .decimals) in
-    let d : isDecimals (c .before .before .args .decimals) ≡ false = sym (c .before .is-decimals .ensures ∙ ap isDecimals dz) ∙ not-true (c .before .is-decimals .result) (c .if1 .taken) in
+    let a = c .before .before in
+    let d : isDecimals (a .args .decimals) ≡ false = sym (c .before .is-decimals .ensures ∙ ap isDecimals (toZ-ofZ w8 (a .args .decimals) (a .fits .decimals))) ∙ not-true (c .before .is-decimals .result) (c .if1 .taken) in
     simp d
 
 enum-told : tie.Need-enum-told
@@ -37,58 +36,51 @@ is-scale-requires c κs = search needs
 
 returns-2 : tie.Need-returns-2
 returns-2 c =
-    let dz = toZ-ofZ w8 (c .before .before .before .before .before .before .before .args .decimals) (c .before .before .before .before .before .before .before .fits .decimals) in
-    let d : isDecimals (c .before .before .before .before .before .before .before .args .decimals) ≡ true = sym (c .before .before .before .before .before .before .is-decimals .ensures ∙ ap isDecimals dz) ∙ not-false (c .before .before .before .before .before .before .is-decimals .result) (c .before .before .before .before .before .if1 .left) in
-    let i = c .before .before .before .number .given .0 .0 in
+    let a = c .before .before .before .before .before .before .before in
+    let b = c .before .before .before .before .before .before .is-decimals in
+    let d : isDecimals (a .args .decimals) ≡ true = sym (b .ensures ∙ ap isDecimals (toZ-ofZ w8 (a .args .decimals) (a .fits .decimals))) ∙ not-false (b .result) (c .before .before .before .before .before .if1 .left) in
     let s = c .before .before .before .number .given .0 .1 .0 in
     let sz = toZ-ofZ w8 s (record { sfits = c .before .before .known-told .given .1 .0 .1 }) in
     let e : isScale s ≡ false = sym (c .before .is-scale .ensures ∙ ap isScale sz) ∙ not-true (c .before .is-scale .result) (c .if2 .taken) in
-    sym (ap (λ (x : Scaled). roundedOf x (c .before .before .before .before .before .before .before .args .decimals)) (c .before .before .before .number .given .1) ∙ simp (d, e))
+    sym (ap (λ (x : Scaled). roundedOf x (a .args .decimals)) (c .before .before .before .number .given .1) ∙ simp (d, e))
 
 exponent-of-requires : tie.Need-exponent-of-requires
-exponent-of-requires c κs =
-    let dz = toZ-ofZ w8 (c .before .before .before .before .before .before .before .args .decimals) (c .before .before .before .before .before .before .before .fits .decimals) in
-    let d : isDecimals (c .before .before .before .before .before .before .before .args .decimals) ≡ true = sym (c .before .before .before .before .before .before .is-decimals .ensures ∙ ap isDecimals dz) ∙ not-false (c .before .before .before .before .before .before .is-decimals .result) (c .before .before .before .before .before .if1 .left) in
-    ap isDecimals dz ∙ d
-
-exponent-of-requires-2 : tie.Need-exponent-of-requires-2
-exponent-of-requires-2 c κs =
-    let i = c .before .before .before .before .number .given .0 .0 in
-    let s = c .before .before .before .before .number .given .0 .1 .0 in
-    let sz = toZ-ofZ w8 s (record { sfits = c .before .before .before .known-told .given .1 .0 .1 }) in
-    let e : isScale s ≡ true = sym (c .before .before .is-scale .ensures ∙ ap isScale sz) ∙ not-false (c .before .before .is-scale .result) (c .before .if2 .left) in
-    ap isDecimals sz ∙ scale-decimals s e
+exponent-of-requires c κs = search needs
 
 nearest-requires : tie.Need-nearest-requires
 nearest-requires c κs =
-    let dz = toZ-ofZ w8 (c .before .before .before .before .before .before .before .before .before .args .decimals) (c .before .before .before .before .before .before .before .before .before .fits .decimals) in
-    let d : isDecimals (c .before .before .before .before .before .before .before .before .before .args .decimals) ≡ true = sym (c .before .before .before .before .before .before .before .before .is-decimals .ensures ∙ ap isDecimals dz) ∙ not-false (c .before .before .before .before .before .before .before .before .is-decimals .result) (c .before .before .before .before .before .before .before .if1 .left) in
-    let i = c .before .before .before .before .before .number .given .0 .0 in
-    let s = c .before .before .before .before .before .number .given .0 .1 .0 in
-    let sz = toZ-ofZ w8 s (record { sfits = c .before .before .before .before .known-told .given .1 .0 .1 }) in
-    let e : isScale s ≡ true = sym (c .before .before .before .is-scale .ensures ∙ ap isScale sz) ∙ not-false (c .before .before .before .is-scale .result) (c .before .before .if2 .left) in
-    (omega (arith, c .before .exponent-of .ensures ∙ ap natAbs dz, decimals-small _ d), omega (arith, c .exponent-of2 .ensures ∙ ap natAbs sz, decimals-small _ (scale-decimals s e)))
+    let a = c .before .before .before .before .before .before .before .before in
+    let b = c .before .before .before .before .before .before .before .is-decimals in
+    let dz = toZ-ofZ w8 (a .args .decimals) (a .fits .decimals) in
+    let d : isDecimals (a .args .decimals) ≡ true = sym (b .ensures ∙ ap isDecimals dz) ∙ not-false (b .result) (c .before .before .before .before .before .before .if1 .left) in (
+      sym (c .before .before .is-scale .ensures) ∙ not-false (c .before .before .is-scale .result) (c .before .if2 .left),
+      omega (arith, c .exponent-of .ensures ∙ ap natAbs dz, decimals-small _ d),
+    )
 
 returns-3 : tie.Need-returns-3
 returns-3 c =
-    let dz = toZ-ofZ w8 (c .before .before .before .before .args .decimals) (c .before .before .before .before .fits .decimals) in
-    let d : isDecimals (c .before .before .before .before .args .decimals) ≡ true = sym (c .before .before .before .is-decimals .ensures ∙ ap isDecimals dz) ∙ not-false (c .before .before .before .is-decimals .result) (c .before .before .if1 .left) in
-    sym (ap (λ (x : Scaled). roundedOf x (c .before .before .before .before .args .decimals)) (c .enum-told .given .1) ∙ simp d)
+    let a = c .before .before .before .before in
+    let b = c .before .before .before .is-decimals in
+    let d : isDecimals (a .args .decimals) ≡ true = sym (b .ensures ∙ ap isDecimals (toZ-ofZ w8 (a .args .decimals) (a .fits .decimals))) ∙ not-false (b .result) (c .before .before .if1 .left) in
+    sym (ap (λ (x : Scaled). roundedOf x (a .args .decimals)) (c .enum-told .given .1) ∙ simp d)
 
 returns-4 : tie.Need-returns-4
 returns-4 c =
-    let dz = toZ-ofZ w8 (c .before .before .before .before .before .before .before .before .before .before .args .decimals) (c .before .before .before .before .before .before .before .before .before .before .fits .decimals) in
-    let d : isDecimals (c .before .before .before .before .before .before .before .before .before .before .args .decimals) ≡ true = sym (c .before .before .before .before .before .before .before .before .before .is-decimals .ensures ∙ ap isDecimals dz) ∙ not-false (c .before .before .before .before .before .before .before .before .before .is-decimals .result) (c .before .before .before .before .before .before .before .before .if1 .left) in
-    let i = c .before .before .before .before .before .before .number .given .0 .0 in
-    let s = c .before .before .before .before .before .before .number .given .0 .1 .0 in
-    let sz = toZ-ofZ w8 s (record { sfits = c .before .before .before .before .before .known-told .given .1 .0 .1 }) in
-    let e : isScale s ≡ true = sym (c .before .before .before .before .is-scale .ensures ∙ ap isScale sz) ∙ not-false (c .before .before .before .before .is-scale .result) (c .before .before .before .if2 .left) in
-    let iz = toZ-ofZ w64 i (record { sfits = c .before .before .before .before .before .known-told .given .0 .1 }) in
+    let a = c .before .before .before .before .before .before .before .before .before in
+    let b = c .before .before .before .before .before .before .before .before .is-decimals in
+    let dz = toZ-ofZ w8 (a .args .decimals) (a .fits .decimals) in
+    let d : isDecimals (a .args .decimals) ≡ true = sym (b .ensures ∙ ap isDecimals dz) ∙ not-false (b .result) (c .before .before .before .before .before .before .before .if1 .left) in
+    let g = c .before .before .before .before .before .number .given in
+    let i = g .0 .0 in
+    let s = g .0 .1 .0 in
+    let f = c .before .before .before .before .known-told .given in
+    let sz = toZ-ofZ w8 s (record { sfits = f .1 .0 .1 }) in
+    let e : isScale s ≡ true = sym (c .before .before .before .is-scale .ensures ∙ ap isScale sz) ∙ not-false (c .before .before .before .is-scale .result) (c .before .before .if2 .left) in
     c .nearest .ensures
-    ∙ ap (λ (y : ℤ). nearestOf y (c .before .before .exponent-of .result) (c .before .exponent-of2 .result)) iz
-    ∙ ap (λ (k : ℕ). nearestOf i k (c .before .exponent-of2 .result)) (c .before .before .exponent-of .ensures ∙ ap natAbs dz)
-    ∙ ap (nearestOf i (natAbs (c .before .before .before .before .before .before .before .before .before .before .args .decimals))) (c .before .exponent-of2 .ensures ∙ ap natAbs sz)
-    ∙ sym (ap (λ (x : Scaled). roundedOf x (c .before .before .before .before .before .before .before .before .before .before .args .decimals)) (c .before .before .before .before .before .before .number .given .1) ∙ simp (d, e))
+    ∙ ap (λ (y : ℤ). nearestTo (standsFor y (toZ w8 (ofZ w8 s))) (c .before .exponent-of .result)) (toZ-ofZ w64 i (record { sfits = f .0 .1 }))
+    ∙ ap (λ (y : ℤ). nearestTo (standsFor i y) (c .before .exponent-of .result)) sz
+    ∙ ap (nearestTo (standsFor i s)) (c .before .exponent-of .ensures ∙ ap natAbs dz)
+    ∙ sym (ap (λ (x : Scaled). roundedOf x (a .args .decimals)) (g .1) ∙ simp (d, e))
 
 pub round-to-spec : {M : Type 1} → statement M
 round-to-spec =
@@ -101,7 +93,6 @@ round-to-spec =
     is-scale-requires
     returns-2
     exponent-of-requires
-    exponent-of-requires-2
     nearest-requires
     returns-3
     returns-4)

@@ -19,15 +19,13 @@ use borrow.Author.Tests.{not-true, not-false, leb-true, le-leb, lt-leb, lt-ltb, 
 use mathlib.Core.Bool.{Bool, true, false, cond, _&&_}
 use mathlib.Core.Path.{_≡_, refl, sym, ap, _∙_, subst}
 use borrow.Author.Needs.{needs}
+use Rattle.meter.proofs.Signs.{widen}
 use Rattle.meter.proofs.scaled.write_scaled.Statement.{statement}
 use Rattle.meter.proofs.scaled.write_scaled.Tie as tie
 
 no-width : (signed : Bool) (n : ℕ) → isWidth n ≡ false → (x : Scaled) → fitsScaled signed n x ≡ false
 no-width signed n w S.Undefined = w
 no-width signed n w (S.Number i s) = rw w
-
-widen : (z : ℤ) → SFits w8 z → SFits w64 (toZ w8 (ofZ w8 z))
-widen z f = subst (λ (y : ℤ). SFits w64 y) (sym (toZ-ofZ w8 z f)) (record { sfits = omega (arith, f .sfits) })
 
 -- the scale and the word of a number
 abbrev scaleWord : Scaled → ℕ

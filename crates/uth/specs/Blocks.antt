@@ -5,8 +5,8 @@ use mathlib.Core.Path.{_≡_}
 use mathlib.Core.Bool.{cond, _&&_}
 use mathlib.Core.List.{List, [], _∷_, _++_, map}
 use lib.Dec.{leb}
-use lib.Ieee.{Float, binary32, ofInt}
-use lib.IntN.{pos, natAbs}
+use lib.Ieee.{Float, binary32, ofBits}
+use lib.IntN.{natAbs}
 use lib.ListN.{length, drop, set}
 use Rattle.calendar.specs.Said.{Said, answer, refusal, refused}
 use Rattle.uth.specs.Layout.{segments, firstAt, line, column, blocks, bodyAt, endAt, uthAt, csrAt}
@@ -37,13 +37,13 @@ blocksFrom a (suc m) p =
 abbrev pub blocksOf : List ℕ → List Block
 blocksOf a = blocksFrom a (natAbs (segments a)) firstAt
 
--- ---- a block in the two rooms: line, column, whether UTH and CSR are there; and UTH and CSR, 0.0 where they are missing
+-- ---- a block in the two rooms: line, column, whether UTH and CSR are there; and UTH and CSR, where one is missing 0.0, which is all bits zero
 abbrev pub flagOf : Value → ℕ
 flagOf N.Missing = 0
 flagOf (N.There x) = 1
 
 abbrev pub numberOf : Value → Float
-numberOf N.Missing = ofInt binary32 (pos 0)
+numberOf N.Missing = ofBits binary32 0
 numberOf (N.There x) = x
 
 abbrev pub rowOf : Block → List ℕ

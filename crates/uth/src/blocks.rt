@@ -112,7 +112,7 @@ fn fill(bytes: &[u8], m: usize, blocks: &mut [[u32; 4]], values: &mut [[f32; 2]]
         let line = word(bytes, p) as u32;
         let column = word(bytes, p + 4) as u32;
         put_blocks(bytes, line, column, p + 36, n, blocks, values, i);
-        p += 36 + 72 * n;
+        p = p + 36 + 72 * n;
         i += n;
         left -= 1;
     }
@@ -148,7 +148,7 @@ fn find(bytes: &[u8], k: usize) -> Block
     while left >= word(bytes, p + 32) {
         let n = word(bytes, p + 32);
         left -= n;
-        p += 36 + 72 * n;
+        p = p + 36 + 72 * n;
     }
     let line = word(bytes, p) as u32;
     let column = word(bytes, p + 4) as u32;

@@ -83,7 +83,7 @@ fn judge_segments(bytes: &[u8], m: usize) -> Count
         match segment(bytes, p) {
             Count::Refused(r) => return Count::Refused(r),
             Count::Blocks(n) => {
-                p += 36 + 72 * n;
+                p = p + 36 + 72 * n;
                 count += n;
                 left -= 1;
             }

@@ -1,99 +1,119 @@
+-- `uth::blocks::find` meets its contract. The invariant: what is looked for in the segments that are left is block k of the file. Assumes nothing.
+use mathlib.Core.Path.{_≡_, sym, ap, _∙_}
+use Prim.Native.Nat.{ℕ, _+_, _*_, _≤_, _<_}
+use native.Mathlib.Omega.{arith}
+use denote.Ref.{now}
+use lib.IntN.{natAbs}
+use lib.ListN.{length}
+use Rattle.calendar.specs.Said.{answer}
+use Rattle.uth.specs.Layout.{endAt}
+use Rattle.uth.specs.Judge.{segmentAt, judgeOf}
+use Rattle.uth.specs.Blocks.{blockOf}
+use Rattle.uth.proofs.FindLaws.{Seeking, seek, here, segment-is, after, found}
+use Rattle.uth.proofs.SegmentLaws.{ends-within, line-is, column-is, blocks-are, one-least}
 use Rattle.uth.proofs.blocks.find.Statement.{statement}
 use Rattle.uth.proofs.blocks.find.Tie as tie
-use Rattle.uth.proofs.blocks.find.Reads as reads
-use Rattle.uth.proofs.blocks.find.Lts as lts
-use Rattle.uth.proofs.blocks.block_of.Reads as block-of-reads
-use Rattle.uth.proofs.value.word.Reads as word-reads
 
 abbrev Inv-loop : tie.InvT-loop
-Inv-loop bytes k p₀ left₀ p left = ?
+Inv-loop bytes k p₀ left₀ p left = (n : ℕ) → judgeOf bytes ≡ answer n → k < n → Seeking bytes n k p left
 
 abbrev μ-loop : tie.MeasureT-loop
-μ-loop bytes k p₀ left₀ p left = ?
+μ-loop bytes k p₀ left₀ p left = left
 
--- src/blocks.rt:148:5
+-- what is known in the loop
+at-loop : (c : tie.At-loop Inv-loop μ-loop) → Seeking (now (c .before .before .args .bytes)) (c .before .before .pre .n) (c .before .before .args .k) (c .loop .p) (c .loop .left)
+at-loop c = let f = c .before .before .pre in c .loop .inv (f .n) (f .read) (f .has)
+
+within : (c : tie.At-loop Inv-loop μ-loop) → endAt (c .loop .p) (here _ _ _ _ _ (at-loop c) .more .k) ≤ length (now (c .before .before .args .bytes))
+within c = ends-within _ _ _ (segment-is _ _ _ _ _ (at-loop c))
+
+has-word2 : (c : tie.After-word2 Inv-loop μ-loop) → here _ _ _ _ _ (at-loop (c .before .before .before)) .more .k ≡ c .word2 .result
+has-word2 c = blocks-are _ _ _ (segment-is _ _ _ _ _ (at-loop (c .before .before .before))) (c .word2 .result) (c .word2 .ensures .1) (c .word2 .ensures .0)
+
+in-segment : (c : tie.Else1 Inv-loop μ-loop) → c .before .before .loop .left < here _ _ _ _ _ (at-loop (c .before .before)) .more .k
+in-segment c =
+    let w = c .before .word in
+    omega (arith, c .if1 .left, blocks-are _ _ _ (segment-is _ _ _ _ _ (at-loop (c .before .before))) (w .result) (w .ensures .1) (w .ensures .0))
+
 loop-holds : tie.Need-loop-holds Inv-loop μ-loop
-loop-holds c = ?
+loop-holds c = λ n e h. seek _ n _ e h
 
--- src/blocks.rt:148:31
 add-word : tie.Need-add-word Inv-loop μ-loop
-add-word c = ?
+add-word c = omega (arith, within c)
 
--- src/blocks.rt:148:19
 word-requires : tie.Need-word-requires Inv-loop μ-loop
-word-requires c κs = ?
+word-requires c κs = omega (arith, within c)
 
--- src/blocks.rt:149:29
 add-word-2 : tie.Need-add-word-2 Inv-loop μ-loop
-add-word-2 c = ?
+add-word-2 c = omega (arith, within (c .before .before))
 
--- src/blocks.rt:149:13
 word-requires-2 : tie.Need-word-requires-2 Inv-loop μ-loop
-word-requires-2 c κs = ?
+word-requires-2 c κs = omega (arith, within (c .before .before))
 
--- src/blocks.rt:150:9
 sub-left : tie.Need-sub-left Inv-loop μ-loop
-sub-left c = ?
+sub-left c = omega (arith, c .before .if1 .taken, c .word2 .ensures .0, c .before .before .word .ensures .0)
 
--- src/blocks.rt:151:19
-mul-p : tie.Need-mul-p Inv-loop μ-loop
-mul-p c = ?
-
--- src/blocks.rt:151:14
 add-p : tie.Need-add-p Inv-loop μ-loop
-add-p c = ?
+add-p c = omega (arith, within (c .before .before .before))
 
--- src/blocks.rt:151:9
+mul-p : tie.Need-mul-p Inv-loop μ-loop
+mul-p c = omega (arith, within (c .before .before .before), has-word2 c)
+
 add-p-2 : tie.Need-add-p-2 Inv-loop μ-loop
-add-p-2 c = ?
+add-p-2 c = omega (arith, within (c .before .before .before), has-word2 c)
 
--- src/blocks.rt:148:5
 loop-less : tie.Need-loop-less Inv-loop μ-loop
-loop-less c = ?
+loop-less c =
+    let x = at-loop (c .before .before .before) in
+    let l = one-least _ _ _ (segment-is _ _ _ _ _ x) in
+    omega (arith, has-word2 c, c .before .if1 .taken, c .word2 .ensures .0, c .before .before .word .ensures .0)
 
--- src/blocks.rt:148:5
 loop-again : tie.Need-loop-again Inv-loop μ-loop
-loop-again c = ?
+loop-again c =
+    λ n e h.
+        let s = c .before .before .before in
+        let x = s .loop .inv n e h in
+        let w = c .word2 in
+        after _ n _ (s .loop .p) (s .loop .left) x (w .result) (blocks-are _ _ _ (segment-is _ _ _ _ _ x) (w .result) (w .ensures .1) (w .ensures .0)) (omega (arith, c .before .if1 .taken, w .ensures .0, c .before .before .word .ensures .0))
 
--- src/blocks.rt:153:16
 word-requires-3 : tie.Need-word-requires-3 Inv-loop μ-loop
-word-requires-3 c κs = ?
+word-requires-3 c κs = omega (arith, within (c .before .before))
 
--- src/blocks.rt:153:16
 cast-line : tie.Need-cast-line Inv-loop μ-loop
-cast-line c = ?
+cast-line c = omega (arith, c .word3 .ensures .1)
 
--- src/blocks.rt:154:30
 add-word-3 : tie.Need-add-word-3 Inv-loop μ-loop
-add-word-3 c = ?
+add-word-3 c = omega (arith, within (c .before .before .before))
 
--- src/blocks.rt:154:18
 word-requires-4 : tie.Need-word-requires-4 Inv-loop μ-loop
-word-requires-4 c κs = ?
+word-requires-4 c κs = omega (arith, within (c .before .before .before))
 
--- src/blocks.rt:154:18
 cast-column : tie.Need-cast-column Inv-loop μ-loop
-cast-column c = ?
+cast-column c = omega (arith, c .word4 .ensures .1)
 
--- src/blocks.rt:155:35
 add-block-of : tie.Need-add-block-of Inv-loop μ-loop
-add-block-of c = ?
+add-block-of c = omega (arith, within (c .before .before .before .before))
 
--- src/blocks.rt:155:44
 mul-block-of : tie.Need-mul-block-of Inv-loop μ-loop
-mul-block-of c = ?
+mul-block-of c = omega (arith, within (c .before .before .before .before), in-segment (c .before .before))
 
--- src/blocks.rt:155:35
 add-block-of-2 : tie.Need-add-block-of-2 Inv-loop μ-loop
-add-block-of-2 c = ?
+add-block-of-2 c = omega (arith, within (c .before .before .before .before), in-segment (c .before .before))
 
--- src/blocks.rt:155:5
 block-of-requires : tie.Need-block-of-requires Inv-loop μ-loop
-block-of-requires c κs = ?
+block-of-requires c κs = omega (arith, within (c .before .before .before .before), in-segment (c .before .before))
 
--- src/blocks.rt:142:1
 returns : tie.Need-returns Inv-loop μ-loop
-returns c = ?
+returns c =
+    let s = c .before .before .before .before .before in
+    let t = s .before .before in
+    let x = at-loop s in
+    let e = segment-is _ _ _ _ _ x in
+    let w = c .before .before .before .before .word in
+    let l = c .before .before .word3 in
+    let m = c .before .word4 in
+    ap answer (c .block-of .ensures)
+    ∙ sym (found _ _ _ _ _ x (l .result) (m .result) (w .result) (t .pre .read) (blocks-are _ _ _ e (w .result) (w .ensures .1) (w .ensures .0)) (line-is _ _ _ e (l .result) (l .ensures .1) (l .ensures .0)) (column-is _ _ _ e (m .result) (m .ensures .1) (m .ensures .0)) (c .before .before .before .if1 .left))
 
 pub find-spec : {M : Type 1} → statement M
 find-spec =
@@ -107,8 +127,8 @@ find-spec =
     add-word-2
     word-requires-2
     sub-left
-    mul-p
     add-p
+    mul-p
     add-p-2
     loop-less
     loop-again

@@ -1,24 +1,18 @@
+-- `uth::blocks::number` meets its contract: by the cases of a value. Assumes nothing.
+use mathlib.Core.Path.{_≡_, sym, ap}
+use Rattle.uth.specs.Blocks.{numberOf}
 use borrow.Author.Needs.{needs}
 use Rattle.uth.proofs.blocks.number.Statement.{statement}
 use Rattle.uth.proofs.blocks.number.Tie as tie
-use Rattle.uth.proofs.blocks.number.Reads as reads
-use Rattle.uth.proofs.blocks.number.Lts as lts
 
--- src/blocks.rt:58:27
-enum-told : tie.Need-enum-told
-enum-told c = search needs
-
--- src/blocks.rt:59:22
-enum-known-v : tie.Need-enum-known-v
-enum-known-v c = search needs
-
--- src/blocks.rt:54:1
 returns : tie.Need-returns
-returns c = ?
-
--- src/blocks.rt:54:1
-returns-2 : tie.Need-returns-2
-returns-2 c = search needs
+returns c = sym (ap numberOf (c .enum-told .given .1))
 
 pub number-spec : {M : Type 1} → statement M
-number-spec = tie.close (tie.spec enum-told enum-known-v returns returns-2)
+number-spec =
+    tie.close
+    (tie.spec
+    (λ c. search needs)
+    (λ c. search needs)
+    returns
+    (λ c. search needs))

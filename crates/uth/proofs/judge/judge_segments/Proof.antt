@@ -1,75 +1,85 @@
+-- `uth::judge::judge_segments` meets its contract. The invariant: the segments that are left give the whole. Assumes nothing.
+use mathlib.Core.Path.{_≡_, refl, sym, ap, _∙_}
+use Prim.Native.Nat.{ℕ, _+_, _*_, _≤_, _<_}
+use native.Mathlib.Omega.{arith}
+use denote.Ref.{now}
+use lib.ListN.{length}
+use Rattle.calendar.specs.Said.{answer, refusal}
+use Rattle.uth.specs.Layout.{endAt}
+use Rattle.uth.specs.Judge.{segmentAt, judgeFrom, saidCount}
+use Rattle.uth.proofs.JudgeLaws.{steps, stops, ends, leaves}
+use Rattle.uth.proofs.SegmentLaws.{ends-within}
+use borrow.Author.Needs.{needs}
 use Rattle.uth.proofs.judge.judge_segments.Statement.{statement}
 use Rattle.uth.proofs.judge.judge_segments.Tie as tie
-use Rattle.uth.proofs.judge.judge_segments.Reads as reads
-use Rattle.uth.proofs.judge.judge_segments.Lts as lts
-use Rattle.uth.proofs.judge.refused.Reads as refused-reads
-use Rattle.uth.proofs.judge.segment.Reads as segment-reads
 
 abbrev Inv-loop : tie.InvT-loop
-Inv-loop bytes m left₀ p₀ count₀ left p count = ?
+Inv-loop bytes m left₀ p₀ count₀ left p count = (judgeFrom bytes m 642 0 ≡ judgeFrom bytes left p count) × (p ≤ length bytes) × (count ≤ p)
 
 abbrev μ-loop : tie.MeasureT-loop
-μ-loop bytes m left₀ p₀ count₀ left p count = ?
+μ-loop bytes m left₀ p₀ count₀ left p count = left
 
--- src/judge.rt:82:5
+-- the segment at p has n blocks, and they lie in the file
+answered-as : (c : tie.After-known-told2 Inv-loop μ-loop) → segmentAt (now (c .before .before .before .before .before .before .before .args .bytes)) (c .before .before .before .before .before .loop .p) ≡ answer (c .before .n .given .0 .0)
+answered-as c = sym (c .before .before .before .segment .ensures) ∙ ap saidCount (c .before .n .given .1)
+
+within : (c : tie.After-known-told2 Inv-loop μ-loop) → endAt (c .before .before .before .before .before .loop .p) (c .before .n .given .0 .0) ≤ length (now (c .before .before .before .before .before .before .before .args .bytes))
+within c = ends-within _ _ _ (answered-as c)
+
 loop-holds : tie.Need-loop-holds Inv-loop μ-loop
-loop-holds c = ?
+loop-holds c = (refl, omega (arith, c .before .pre), omega arith)
 
--- src/judge.rt:83:15
 segment-requires : tie.Need-segment-requires Inv-loop μ-loop
-segment-requires c κs = ?
+segment-requires c κs = c .before .loop .inv .1
 
--- src/judge.rt:84:28
-enum-known-r : tie.Need-enum-known-r Inv-loop μ-loop
-enum-known-r c = ?
-
--- src/judge.rt:84:34
 returns : tie.Need-returns Inv-loop μ-loop
-returns c = ?
+returns c =
+    let l = c .before .before .before .before .before in
+    let g = c .before .before .before .segment in
+    let a = now (l .before .before .args .bytes) in
+    sym (l .loop .inv .0 ∙ stops a (l .loop .left) (l .loop .p) (l .loop .count) (c .before .before .before .before .loop-test .taken) _ _ (sym (g .ensures) ∙ ap saidCount (c .before .r .given .1)))
 
--- src/judge.rt:85:27
-enum-known-n : tie.Need-enum-known-n Inv-loop μ-loop
-enum-known-n c = ?
-
--- src/judge.rt:86:27
-mul-p : tie.Need-mul-p Inv-loop μ-loop
-mul-p c = ?
-
--- src/judge.rt:86:22
 add-p : tie.Need-add-p Inv-loop μ-loop
-add-p c = ?
+add-p c = omega (arith, within c)
 
--- src/judge.rt:86:17
+mul-p : tie.Need-mul-p Inv-loop μ-loop
+mul-p c = omega (arith, within c)
+
 add-p-2 : tie.Need-add-p-2 Inv-loop μ-loop
-add-p-2 c = ?
+add-p-2 c = omega (arith, within c)
 
--- src/judge.rt:87:17
 add-count : tie.Need-add-count Inv-loop μ-loop
-add-count c = ?
+add-count c = omega (arith, within c, c .before .before .before .before .before .loop .inv .2)
 
--- src/judge.rt:88:17
 sub-left : tie.Need-sub-left Inv-loop μ-loop
-sub-left c = ?
+sub-left c = c .before .before .before .before .loop-test .taken
 
--- src/judge.rt:82:5
 loop-less : tie.Need-loop-less Inv-loop μ-loop
-loop-less c = ?
+loop-less c = let h = c .before .before .before .before .loop-test .taken in omega arith
 
--- src/judge.rt:82:5
 loop-again : tie.Need-loop-again Inv-loop μ-loop
-loop-again c = ?
+loop-again c =
+    let l = c .before .before .before .before .before in
+    let a = now (l .before .before .args .bytes) in
+    (
+      l .loop .inv .0 ∙ steps a (l .loop .left) (l .loop .p) (l .loop .count) (c .before .before .before .before .loop-test .taken) (c .before .n .given .0 .0) (answered-as c),
+      within c,
+      omega (arith, l .loop .inv .2),
+    )
 
--- src/judge.rt:93:9
-refused-requires : tie.Need-refused-requires Inv-loop μ-loop
-refused-requires c κs = ?
-
--- src/judge.rt:93:9
 returns-2 : tie.Need-returns-2 Inv-loop μ-loop
-returns-2 c = ?
+returns-2 c =
+    let l = c .before .before .before in
+    let a = now (l .before .before .args .bytes) in
+    let z : l .loop .left ≡ 0 = omega (arith, c .before .before .loop-test .left) in
+    ap saidCount (c .refused .ensures) ∙ sym (l .loop .inv .0 ∙ leaves a (l .loop .left) (l .loop .p) (l .loop .count) z (c .before .if1 .taken))
 
--- src/judge.rt:75:1
 returns-3 : tie.Need-returns-3 Inv-loop μ-loop
-returns-3 c = ?
+returns-3 c =
+    let l = c .before .before in
+    let a = now (l .before .before .args .bytes) in
+    let z : l .loop .left ≡ 0 = omega (arith, c .before .loop-test .left) in
+    sym (l .loop .inv .0 ∙ ends a (l .loop .left) (l .loop .p) (l .loop .count) z (c .if1 .left))
 
 pub judge-segments-spec : {M : Type 1} → statement M
 judge-segments-spec =
@@ -79,16 +89,16 @@ judge-segments-spec =
     μ-loop
     loop-holds
     segment-requires
-    enum-known-r
+    (λ c. search needs)
     returns
-    enum-known-n
-    mul-p
+    (λ c. search needs)
     add-p
+    mul-p
     add-p-2
     add-count
     sub-left
     loop-less
     loop-again
-    refused-requires
+    (λ c κs. search needs)
     returns-2
     returns-3)

@@ -56,6 +56,11 @@ module _ {A : Type 0} (f : Block → A) (a : List ℕ) where
   put-none room i l c zero b e = refl
   put-none room i l c (suc n) b e = absurd (omega arith)
 
+  pub put-rest : (room : List A) (i m p : ℕ) → m ≡ 0 → putAll room i (map f (blocksFrom a m p)) ≡ room
+  unfolding putAll blocksFrom
+  put-rest room i zero p e = refl
+  put-rest room i (suc m) p e = absurd (omega arith)
+
   pub put-segment : (room : List A) (i m p l c k : ℕ) → 0 < m → natAbs (line a p) ≡ l → natAbs (column a p) ≡ c → natAbs (blocks a p) ≡ k → putAll room i (map f (blocksFrom a m p)) ≡ putAll (putAll room i (map f (blocksIn a l c k (bodyAt p)))) (i + k) (map f (blocksFrom a (m - 1) (endAt p k)))
   put-segment room i zero p l c k h el ec ek = absurd (omega arith)
   put-segment room i (suc m) p l c k h el ec ek =

@@ -68,6 +68,13 @@ module _ (v : ℕ) (l : v < 4294967296) where
       first true y e = refl
       first false y e = e
 
+  pub natural-number : ltZ (twos (halfOf 4) v) (pos 0) ≡ false → natAbs (twos (halfOf 4) v) ≡ v
+  natural-number t = go (ltb v 2147483648) refl
+    where
+      go : (b : Bool) → ltb v 2147483648 ≡ b → natAbs (twos (halfOf 4) v) ≡ v
+      go true e = ap natAbs (low v (ltb-true v 2147483648 e))
+      go false e = absurd (true≢false (sym (ap (λ (z : ℤ). ltZ z (pos 0)) (high v (ltb-false v 2147483648 e) l)) ∙ t))
+
   pub below-zero : 2147483648 ≤ v → ltZ (twos (halfOf 4) v) (pos 0) ≡ true
   below-zero h = ap (λ (z : ℤ). ltZ z (pos 0)) (high v h l)
 

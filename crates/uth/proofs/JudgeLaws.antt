@@ -162,3 +162,13 @@ pub opened : (a : List ℕ) (c : ℕ) → judgeOf a ≡ answer c → Opened a c
 opened a c e =
     let x = unless-answer (leb firstAt (length a)) 30 (length a) (cond (ltZ (segments a) (pos 0)) (refusal 31 614) (judgeFrom a (natAbs (segments a)) firstAt 0)) c e in
     natural-of a c (leb-true firstAt (length a) (x .0)) (ltZ (segments a) (pos 0)) refl (x .1)
+
+-- ---- the ways out of a file
+pub short : (a : List ℕ) → length a < 642 → judgeOf a ≡ refusal 30 (length a)
+short a h = simp (lt-leb 642 (length a) h)
+
+pub negative : (a : List ℕ) → 642 ≤ length a → ltZ (segments a) (pos 0) ≡ true → judgeOf a ≡ refusal 31 614
+negative a h e = simp (le-leb 642 (length a) h, e)
+
+pub walks : (a : List ℕ) → 642 ≤ length a → ltZ (segments a) (pos 0) ≡ false → judgeOf a ≡ judgeFrom a (natAbs (segments a)) 642 0
+walks a h e = simp (le-leb 642 (length a) h, e)

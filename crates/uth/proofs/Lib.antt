@@ -2,6 +2,9 @@ pub mod BlockLaws
 pub mod FieldLaws
 pub mod FindLaws
 pub mod JudgeLaws
+pub mod Longer
 pub mod PutLaws
+pub mod ReadLaws
 pub mod SegmentLaws
+pub mod Tiling
 pub mod ValueLaws

@@ -23,7 +23,8 @@ pub(crate) fn word(bytes: &[u8], at: usize) -> usize
     requires { ⌜ at + 4 ≤ length (now bytes) ⌝ }
     ensures { λ r. ⌜ (r ≡ beAt (now (bytes .entry)) at 4) × (r < 4294967296) ⌝ }
 {
-    ((wide(bytes[at]) * 256 + wide(bytes[at + 1])) * 256 + wide(bytes[at + 2])) * 256 + wide(bytes[at + 3])
+    ((wide(bytes[at]) * 256 + wide(bytes[at + 1])) * 256 + wide(bytes[at + 2])) * 256
+        + wide(bytes[at + 3])
 }
 
 // The exponent is not all ones.

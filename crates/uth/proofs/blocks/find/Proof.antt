@@ -71,10 +71,10 @@ loop-less c =
 loop-again : tie.Need-loop-again Inv-loop μ-loop
 loop-again c =
     λ n e h.
-        let s = c .before .before .before in
-        let x = s .loop .inv n e h in
-        let w = c .word2 in
-        after _ n _ (s .loop .p) (s .loop .left) x (w .result) (blocks-are _ _ _ (segment-is _ _ _ _ _ x) (w .result) (w .ensures .1) (w .ensures .0)) (omega (arith, c .before .if1 .taken, w .ensures .0, c .before .before .word .ensures .0))
+    let s = c .before .before .before in
+    let x = s .loop .inv n e h in
+    let w = c .word2 in
+    after _ n _ (s .loop .p) (s .loop .left) x (w .result) (blocks-are _ _ _ (segment-is _ _ _ _ _ x) (w .result) (w .ensures .1) (w .ensures .0)) (omega (arith, c .before .if1 .taken, w .ensures .0, c .before .before .word .ensures .0))
 
 word-requires-3 : tie.Need-word-requires-3 Inv-loop μ-loop
 word-requires-3 c κs = omega (arith, within (c .before .before))

@@ -60,8 +60,7 @@ loop-again c =
     let s = t .column in
     let h = c .before .before .before .before .before .before .loop-test .taken in
     let w = c .before .before .put-block .ensures in
-    let v = c .before .before .before .block-of .ensures in
-    (
+    let v = c .before .before .before .block-of .ensures in (
       ap (λ (r : List (List ℕ)). putAll r (x .i + 1) (map rowOf (blocksIn a l s (x .left - 1) (x .b + 72)))) (w .0 ∙ ap (λ (q : Block). set (x .blocks) (x .i) (rowOf q)) v) ∙ sym (put-one rowOf a (x .blocks) (x .i) l s (x .left) (x .b) h) ∙ x .inv .0,
       ap (λ (r : List (List Float)). putAll r (x .i + 1) (map pairOf (blocksIn a l s (x .left - 1) (x .b + 72)))) (w .1 ∙ ap (λ (q : Block). set (x .values) (x .i) (pairOf q)) v) ∙ sym (put-one pairOf a (x .values) (x .i) l s (x .left) (x .b) h) ∙ x .inv .1,
       ap length (w .0) ∙ simp length-set (x .inv .2),
@@ -80,8 +79,7 @@ returns : tie.Need-returns Inv-loop μ-loop
 returns c =
     let x = c .before .loop in
     let t = c .before .before .before .args in
-    let z : x .left ≡ 0 = omega (arith, c .loop-test .left) in
-    (
+    let z : x .left ≡ 0 = omega (arith, c .loop-test .left) in (
       sym (put-none rowOf (now (t .bytes)) (x .blocks) (x .i) (t .line) (t .column) (x .left) (x .b) z) ∙ x .inv .0,
       sym (put-none pairOf (now (t .bytes)) (x .values) (x .i) (t .line) (t .column) (x .left) (x .b) z) ∙ x .inv .1,
     )

@@ -60,8 +60,7 @@ loop-less c = let h = c .before .before .before .before .loop-test .taken in ome
 loop-again : tie.Need-loop-again Inv-loop μ-loop
 loop-again c =
     let l = c .before .before .before .before .before in
-    let a = now (l .before .before .args .bytes) in
-    (
+    let a = now (l .before .before .args .bytes) in (
       l .loop .inv .0 ∙ steps a (l .loop .left) (l .loop .p) (l .loop .count) (c .before .before .before .before .loop-test .taken) (c .before .n .given .0 .0) (answered-as c),
       within c,
       omega (arith, l .loop .inv .2),

@@ -1,4 +1,5 @@
 pub mod BlockLaws
+pub mod Determined
 pub mod FieldLaws
 pub mod FindLaws
 pub mod JudgeLaws

@@ -4,23 +4,27 @@
 use cases::input::read;
 use cases::input::read_part;
 use cases::input::word;
+use cases::print::float;
 use cases::print::number;
 use cases::print::refusal;
 use cases::print::say;
 use libc::STDIN_FILENO;
-use libc::STDOUT_FILENO;
 use uth::blocks::Block;
 use uth::blocks::BlockRead;
 use uth::judge::Count;
 use uth::value::Value;
+ghost use Prim.Native.Nat.{_≤_};
 
 fn print_float(x: f32) {
     if x == x {
-        say(b" ");
-        io::print_hex(STDOUT_FILENO, f32::to_bits(x) as u64, 8);
+        float(x as f64);
     } else {
         say(b" nan");
     }
+}
+
+fn print_count(n: u32) {
+    number(n as u64);
 }
 
 fn print_answer(answer: Count) {
@@ -38,10 +42,10 @@ fn print_rows(rows: &[[u32; 4]]) {
     let mut i: usize = 0;
     while i < rows.len() {
         let row = rows[i];
-        number(row[0] as u64);
-        number(row[1] as u64);
-        number(row[2] as u64);
-        number(row[3] as u64);
+        print_count(row[0]);
+        print_count(row[1]);
+        print_count(row[2]);
+        print_count(row[3]);
         say(b"\n");
         i += 1;
     }
@@ -66,9 +70,12 @@ fn read_into(bytes: &[u8], rows: &mut [[u32; 4]], pairs: &mut [[f32; 2]]) {
 
 // At most 32 places.
 fn places(n: u64) -> usize
-    ensures { λ r. ⌜ Prim.Native.Nat._≤_ r 32 ⌝ }
+    ensures { λ r. ⌜ r ≤ 32 ⌝ }
 {
-    if n < 32 { n as usize } else { 32 }
+    if n < 32 {
+        return n as usize;
+    }
+    32
 }
 
 // The next rooms.
@@ -100,10 +107,12 @@ fn print_value(v: Value) {
 }
 
 fn print_block(b: Block) {
-    number(b.line as u64);
-    number(b.column as u64);
-    print_value(b.uth);
-    print_value(b.csr);
+    print_count(b.line);
+    print_count(b.column);
+    let uth = b.uth;
+    let csr = b.csr;
+    print_value(uth);
+    print_value(csr);
 }
 
 fn ask(bytes: &[u8], k: usize) {

@@ -1,11 +1,11 @@
 -- The laws of blocks: how many there are, how they are put one after the other, and which is block k. By induction on the segments. Assumes nothing.
-use mathlib.Core.Path.{_≡_, refl, sym, ap, _∙_}
+use mathlib.Core.Path.{_≡_, refl, ap, _∙_}
 use mathlib.Core.List.{List, [], _∷_, _++_, map}
 use Prim.Native.Nat.{ℕ, zero, suc, _+_, _-_, _*_, _≤_, _<_}
 use native.Mathlib.Omega.{arith}
 use lib.IntN.{natAbs}
 use lib.ListN.{length, set, length-append, length-map}
-use Rattle.calendar.specs.Said.{Said, answer, refusal}
+use Rattle.calendar.specs.Said.{answer, refusal}
 use Rattle.uth.specs.Layout.{line, column, blocks, bodyAt, endAt}
 use Rattle.uth.specs.Judge.{judgeFrom}
 use Rattle.uth.specs.Blocks.{blockOf, blocksIn, blocksFrom, itemOf, putAll}

@@ -4,7 +4,6 @@ use mathlib.Core.List.{List}
 use Prim.Native.Nat.{ℕ, zero, suc, _+_, _-_, _*_, _≤_, _<_}
 use native.Mathlib.Omega.{arith}
 use lib.IntN.{natAbs}
-use lib.ListN.{length}
 use Rattle.calendar.specs.Said.{Said, answer, refusal}
 use Rattle.uth.specs.Layout.{segments, firstAt, line, column, blocks, bodyAt, endAt}
 use Rattle.uth.specs.Judge.{onward, segmentAt, judgeFrom, judgeOf}

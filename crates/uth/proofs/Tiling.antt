@@ -1,13 +1,13 @@
 -- READ EXACTLY WHERE THE BLOCKS TILE THE FILE, both ways: a file is answered with n blocks just where n blocks tile it, each segment in the grid with
 -- one block at least. By induction on the segments. Assumes nothing.
-use mathlib.Core.Path.{_≡_, refl, sym, ap, _∙_, subst}
+use mathlib.Core.Path.{_≡_, refl, ap, _∙_, subst}
 use mathlib.Core.List.{List}
-use Prim.Native.Nat.{ℕ, zero, suc, _+_, _-_, _*_, _≤_, _<_}
+use Prim.Native.Nat.{ℕ, zero, suc, _+_, _-_, _≤_}
 use native.Mathlib.Omega.{arith}
 use lib.IntN.{natAbs}
 use lib.ListN.{length}
 use Rattle.calendar.specs.Said.{answer}
-use Rattle.uth.specs.Layout.{segments, firstAt, blocks, endAt}
+use Rattle.uth.specs.Layout.{segments, firstAt, endAt}
 use Rattle.uth.specs.Judge.{segmentAt, judgeFrom, judgeOf}
 use Rattle.uth.specs.Tiles.{Segment, Run, none, more, Tiles}
 use Rattle.uth.proofs.JudgeLaws.{answered, more-of, last-of, opened, whole, ends, steps, walks}

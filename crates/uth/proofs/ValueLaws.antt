@@ -2,14 +2,13 @@
 -- subnormals too. By the kit's account of IEEE 754. Assumes nothing.
 use mathlib.Core.Path.{_≡_, refl, sym, ap, _∙_, subst}
 use mathlib.Core.Bool.{Bool, true, false, cond, not, true≢false}
-use Prim.Native.Nat.{ℕ, zero, suc, _+_, _*_, _/_, _%_, _^_, _≤_, _<_}
+use Prim.Native.Nat.{ℕ, zero, suc, _+_, _/_, _%_, _^_, _<_}
 use native.Mathlib.Omega.{arith}
-use borrow.Author.Tests.{lt-ltb, le-ltb, eqb-true, eqb-false, eq-eqb, ne-eqb}
+use borrow.Author.Tests.{lt-ltb, le-ltb, eqb-true, eqb-false}
 use lib.Dec.{T, eqb, ltb, leb}
 use lib.Ieee.{Float, nan, inf, fin, binary32, odd, ofFields, ofBits, toBits, isNan, nanBits}
 use lib.Ieee.Bits.{toBits-ofBits, nanBits-is}
 use Rattle.uth.specs.Value.{finite, valueOf}
-use Rattle.uth.specs.declared.value.Value.{Value}
 use Rattle.uth.specs.declared.value.Value.the-variants as N
 
 odd-finite : (d : ℕ) (s : Bool) (q k l : ℕ) → finite (odd d s q k l) ≡ true

@@ -1,6 +1,6 @@
 -- WHAT A FILE IS, apart from the order of its faults (02, request Eleven: "Segment line and column must be 1..80"; "blocks must tile the file").
 -- Assumes nothing.
-use Prim.Native.Nat.{ℕ, zero, suc, _+_, _≤_}
+use Prim.Native.Nat.{ℕ, suc, _+_, _≤_}
 use mathlib.Core.Path.{_≡_}
 use mathlib.Core.Bool.{true, false}
 use mathlib.Core.List.{List}

@@ -9,10 +9,7 @@ use calendar::Refusal;
 ghost use mathlib.Core.Path.{_≡_};
 ghost use mathlib.Core.List.{map};
 ghost use Prim.Native.Nat.{_+_, _*_, _≤_, _<_};
-ghost use lib.IntN.{natAbs};
 ghost use lib.ListN.{length, set};
-ghost use Rattle.uth.specs.Layout.{segments};
-ghost use Rattle.uth.specs.Judge.{judgeOf};
 ghost use Rattle.uth.specs.Blocks.{blockOf, blocksIn, blocksOf, flagOf, numberOf, rowOf, pairOf, putAll};
 ghost use Rattle.uth.specs.Blocks.{ReadsUth, blockReadOf, saidBlock};
 ghost use Rattle.uth.specs.Steps.{Fills, Finds};
@@ -83,9 +80,12 @@ fn put_blocks(
     values: &mut [[f32; 2]],
     first: usize,
 )
-    requires { ⌜ (from + 72 * n ≤ length (now bytes)) × (first + n ≤ length (now blocks)) × (first + n ≤ length (now values)) ⌝ }
-    ensures { λ _. ⌜ (now (blocks .exit) ≡ putAll (now (blocks .entry)) first (map rowOf (blocksIn (now (bytes .entry)) line column n from)))
-        × (now (values .exit) ≡ putAll (now (values .entry)) first (map pairOf (blocksIn (now (bytes .entry)) line column n from))) ⌝ }
+    requires { ⌜ (from + 72 * n ≤ length (now bytes))
+        × (first + n ≤ length (now blocks)) × (first + n ≤ length (now values)) ⌝ }
+    ensures { λ _. ⌜ (now (blocks .exit) ≡ putAll (now (blocks .entry)) first
+        (map rowOf (blocksIn (now (bytes .entry)) line column n from)))
+        × (now (values .exit) ≡ putAll (now (values .entry)) first
+        (map pairOf (blocksIn (now (bytes .entry)) line column n from))) ⌝ }
 {
     let mut left = n;
     let mut b = from;
@@ -121,7 +121,8 @@ fn fill(bytes: &[u8], m: usize, blocks: &mut [[u32; 4]], values: &mut [[f32; 2]]
 // Reads a file: of each block its line and column, and whether its UTH and CSR are there, into a place of `blocks`, and these two, or 0.0,
 // into the same place of `values`.
 pub fn read_uth(bytes: &[u8], blocks: &mut [[u32; 4]], values: &mut [[f32; 2]]) -> Count
-    ensures { λ r. ⌜ ReadsUth (now (bytes .entry)) (now (blocks .entry)) (now (values .entry)) r (now (blocks .exit)) (now (values .exit)) ⌝ }
+    ensures { λ r. ⌜ ReadsUth (now (bytes .entry)) (now (blocks .entry)) (now (values .entry)) r
+        (now (blocks .exit)) (now (values .exit)) ⌝ }
 {
     match judge(bytes) {
         Count::Refused(r) => Count::Refused(r),

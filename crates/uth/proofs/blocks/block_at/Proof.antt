@@ -1,5 +1,5 @@
 -- `uth::blocks::block_at` meets its contract: the file, then the number of its blocks. Assumes nothing.
-use mathlib.Core.Path.{_≡_, sym, ap, _∙_}
+use mathlib.Core.Path.{sym, ap, _∙_}
 use Prim.Native.Nat.{ℕ}
 use denote.Ref.{now}
 use Rattle.calendar.specs.Said.{Said}

@@ -1,5 +1,4 @@
 -- `uth::blocks::block_of` meets its contract: its parts are what they are. Assumes nothing.
-use mathlib.Core.Path.{_≡_}
 use borrow.Author.Needs.{needs}
 use Rattle.uth.proofs.blocks.block_of.Statement.{statement}
 use Rattle.uth.proofs.blocks.block_of.Tie as tie

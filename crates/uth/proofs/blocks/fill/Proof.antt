@@ -1,11 +1,10 @@
 -- `uth::blocks::fill` meets its contract. The invariant: the segments that are left give what the file gives, judged and put. Assumes nothing.
 use mathlib.Core.Path.{_≡_, refl, sym, ap, _∙_}
 use mathlib.Core.List.{List, map}
-use Prim.Native.Nat.{ℕ, _+_, _-_, _*_, _≤_, _<_}
+use Prim.Native.Nat.{ℕ, _+_, _-_, _≤_}
 use native.Mathlib.Omega.{arith}
 use denote.Ref.{now}
 use lib.Ieee.{Float}
-use lib.IntN.{natAbs}
 use lib.ListN.{length}
 use Rattle.calendar.specs.Said.{answer}
 use Rattle.uth.specs.Layout.{blocks, endAt}

@@ -1,14 +1,12 @@
 -- `uth::blocks::find` meets its contract. The invariant: what is looked for in the segments that are left is block k of the file. Assumes nothing.
 use mathlib.Core.Path.{_≡_, sym, ap, _∙_}
-use Prim.Native.Nat.{ℕ, _+_, _*_, _≤_, _<_}
+use Prim.Native.Nat.{ℕ, _≤_, _<_}
 use native.Mathlib.Omega.{arith}
 use denote.Ref.{now}
-use lib.IntN.{natAbs}
 use lib.ListN.{length}
 use Rattle.calendar.specs.Said.{answer}
 use Rattle.uth.specs.Layout.{endAt}
-use Rattle.uth.specs.Judge.{segmentAt, judgeOf}
-use Rattle.uth.specs.Blocks.{blockOf}
+use Rattle.uth.specs.Judge.{judgeOf}
 use Rattle.uth.proofs.FindLaws.{Seeking, seek, here, segment-is, after, found}
 use Rattle.uth.proofs.SegmentLaws.{ends-within, line-is, column-is, blocks-are, one-least}
 use Rattle.uth.proofs.blocks.find.Statement.{statement}

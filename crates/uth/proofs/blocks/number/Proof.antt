@@ -1,5 +1,5 @@
 -- `uth::blocks::number` meets its contract: by the cases of a value. Assumes nothing.
-use mathlib.Core.Path.{_≡_, sym, ap}
+use mathlib.Core.Path.{sym, ap}
 use Rattle.uth.specs.Blocks.{numberOf}
 use borrow.Author.Needs.{needs}
 use Rattle.uth.proofs.blocks.number.Statement.{statement}

@@ -1,5 +1,4 @@
 -- `uth::blocks::put_block` meets its contract: a place of each room, by its parts. Assumes nothing.
-use mathlib.Core.Path.{_≡_}
 use borrow.Author.Needs.{needs}
 use Rattle.uth.proofs.blocks.put_block.Statement.{statement}
 use Rattle.uth.proofs.blocks.put_block.Tie as tie

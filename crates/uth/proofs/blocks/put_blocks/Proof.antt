@@ -1,12 +1,12 @@
 -- `uth::blocks::put_blocks` meets its contract. The invariant: putting the blocks that are left gives what putting all does. Assumes nothing.
 use mathlib.Core.Path.{_≡_, refl, sym, ap, _∙_}
 use mathlib.Core.List.{List, map}
-use Prim.Native.Nat.{ℕ, _+_, _-_, _*_, _<_}
+use Prim.Native.Nat.{ℕ, _+_, _-_, _*_}
 use native.Mathlib.Omega.{arith}
 use denote.Ref.{now}
 use lib.Ieee.{Float}
 use lib.ListN.{length, set, length-set}
-use Rattle.uth.specs.Blocks.{blockOf, blocksIn, rowOf, pairOf, putAll}
+use Rattle.uth.specs.Blocks.{blocksIn, rowOf, pairOf, putAll}
 use Rattle.uth.specs.declared.blocks.Block.{Block}
 use Rattle.uth.proofs.BlockLaws.{put-one, put-none}
 use Rattle.uth.proofs.blocks.put_blocks.Statement.{statement}

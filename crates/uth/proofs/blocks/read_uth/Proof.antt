@@ -1,12 +1,12 @@
 -- `uth::blocks::read_uth` meets its contract: the file, the rooms, then its blocks in them. Assumes nothing.
 use mathlib.Core.Path.{_≡_, refl, sym, ap, _∙_}
-use Prim.Native.Nat.{ℕ, _≤_}
+use Prim.Native.Nat.{ℕ}
 use native.Mathlib.Omega.{arith}
 use denote.Ref.{now}
 use lib.IntN.{pos, natAbs}
 use lib.Signed.{ltZ}
 use lib.ListN.{length}
-use Rattle.calendar.specs.Said.{Said, answer}
+use Rattle.calendar.specs.Said.{answer}
 use Rattle.meter.specs.Integer.{twos, halfOf}
 use Rattle.uth.specs.Layout.{segments}
 use Rattle.uth.specs.Judge.{judgeFrom, judgeOf, saidCount}

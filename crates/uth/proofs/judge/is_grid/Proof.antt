@@ -1,6 +1,5 @@
 -- `uth::judge::is_grid` meets its contract: 1 to 80, by the number of the bytes. Assumes nothing.
-use mathlib.Core.Path.{_≡_, sym}
-use native.Mathlib.Omega.{arith}
+use mathlib.Core.Path.{sym}
 use Rattle.uth.proofs.FieldLaws.{grid-zero, grid-is}
 use Rattle.uth.proofs.judge.is_grid.Statement.{statement}
 use Rattle.uth.proofs.judge.is_grid.Tie as tie

@@ -1,5 +1,5 @@
 -- `uth::judge::is_some` meets its contract: 1 to 2 ^ 31 - 1, by the number of the bytes. Assumes nothing.
-use mathlib.Core.Path.{_≡_, sym}
+use mathlib.Core.Path.{sym}
 use Rattle.uth.proofs.FieldLaws.{some-zero, some-is}
 use Rattle.uth.proofs.judge.is_some.Statement.{statement}
 use Rattle.uth.proofs.judge.is_some.Tie as tie

@@ -1,10 +1,10 @@
 -- `uth::judge::judge_segments` meets its contract. The invariant: the segments that are left give the whole. Assumes nothing.
 use mathlib.Core.Path.{_≡_, refl, sym, ap, _∙_}
-use Prim.Native.Nat.{ℕ, _+_, _*_, _≤_, _<_}
+use Prim.Native.Nat.{_≤_}
 use native.Mathlib.Omega.{arith}
 use denote.Ref.{now}
 use lib.ListN.{length}
-use Rattle.calendar.specs.Said.{answer, refusal}
+use Rattle.calendar.specs.Said.{answer}
 use Rattle.uth.specs.Layout.{endAt}
 use Rattle.uth.specs.Judge.{segmentAt, judgeFrom, saidCount}
 use Rattle.uth.proofs.JudgeLaws.{steps, stops, ends, leaves}

@@ -1,5 +1,5 @@
 -- `uth::value::value_at` meets its contract: the value of the bits there. Assumes nothing.
-use mathlib.Core.Path.{_≡_, ap, _∙_}
+use mathlib.Core.Path.{ap, _∙_}
 use Rattle.uth.specs.Value.{valueOf}
 use borrow.Author.Needs.{needs}
 use Rattle.uth.proofs.value.value_at.Statement.{statement}

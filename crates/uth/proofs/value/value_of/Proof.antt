@@ -1,6 +1,5 @@
 -- `uth::value::value_of` meets its contract: a float is made of its bits only where it is finite. Assumes nothing.
-use mathlib.Core.Path.{_≡_, sym, _∙_}
-use borrow.Author.Tests.{not-false}
+use mathlib.Core.Path.{sym, _∙_}
 use Rattle.uth.proofs.ValueLaws.{no-nan, missing, there}
 use borrow.Author.Needs.{needs}
 use Rattle.uth.proofs.value.value_of.Statement.{statement}

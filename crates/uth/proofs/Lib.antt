@@ -1,5 +1,6 @@
 pub mod BlockLaws
 pub mod Determined
+pub mod Example
 pub mod FieldLaws
 pub mod FindLaws
 pub mod JudgeLaws

@@ -62,7 +62,13 @@ enum wl_refusal {
     WL_LISTING_LIMIT = 23,  /* a listing of more than 65,536 bytes; 65536 */
     WL_TOO_MANY_POINTERS = 24, /* a watch was fed a 65th pointer record; its start */
     WL_WINDOW = 25,         /* a window of time is undefined or invalid, or ends before it starts; 0 */
-    WL_RESULT_LIMIT = 28    /* a product to be written would have over 2,147,483,647 bytes or over 999,999 records; 0 */
+    WL_RESULT_LIMIT = 28,   /* a product to be written would have over 2,147,483,647 bytes or over 999,999 records; 0 */
+    WL_UTH_SHORT = 30,      /* a humidity file short of 642 bytes; its length */
+    WL_UTH_SEGMENTS = 31,   /* M, its number of segments, is negative; 614 */
+    WL_UTH_GRID = 32,       /* a segment's line or column is not 1 to 80; where it stands */
+    WL_UTH_BLOCKS = 33,     /* N, a segment's number of blocks, is below 1; where it stands */
+    WL_UTH_CUT = 34,        /* a segment header or a block is cut; the file's length */
+    WL_UTH_LEFT = 35        /* bytes are left over after the last block; where they start */
 };
 
 /* ---- sizes of the answers */
@@ -263,6 +269,15 @@ void wl_listing(const uint8_t *bytes, size_t len, uint8_t *text, size_t room, ui
  * a refusal nothing is written. The result is accepted by wl_finished. It has at most the bytes of the product and 27 for each of its records. */
 void wl_cut(const uint8_t *bytes, size_t len, uint8_t first_defined, uint16_t first_day, uint32_t first_milli, uint8_t last_defined, uint16_t last_day,
             uint32_t last_milli, uint8_t *room, size_t room_len, uint64_t answer[4]);
+
+/* ---- the humidity archive: Upper Tropospheric Humidity files in OpenMTP form, which are no EPS products. 542 bytes of text, a header of 100, and for
+ * each of its M segments 36 bytes and N blocks of 72, N of each segment's own */
+
+/* The blocks of a humidity file, each into the next place of both rooms: line, column (1 to 80 each), whether UTH is there, whether CSR is there; and UTH
+ * in percent and CSR in Kelvin, each with the bits that stand in the file, or 0.0 where it is not finite. Then 0, 0, the number of blocks, 0, and the
+ * places beyond kept; or the first fault in file order, 30 to 35; or 18 with the number of blocks where either room has fewer places. Of a refusal
+ * nothing is written. With rooms of no places it says how many are needed. */
+void wl_uth(const uint8_t *bytes, size_t len, uint32_t (*blocks)[4], size_t room, float (*values)[2], size_t values_room, uint64_t answer[4]);
 
 /* ---- record headers and lines of the main header */
 

@@ -2,7 +2,7 @@
 pub mod form;
 pub mod raw;
 
-use crate::values::{Date, Field, GroundPoint, Header, Moment, Reading, Record, Refusal, Scaled, Time, Which};
+use crate::values::{Date, Field, GroundPoint, Header, Moment, Reading, Record, Refusal, Scaled, Time, UthBlock, Which};
 use crate::{Arrival, Finished};
 use std::cmp::Ordering;
 use std::io;
@@ -164,6 +164,31 @@ pub fn cut(bytes: &[u8], first: Option<Time>, last: Option<Time>) -> Result<Vec<
     };
     room.truncate(written?);
     Ok(room)
+}
+
+// ---- the humidity archive
+
+/// Of each block line, column and whether UTH and CSR are there into a place of the one room, and the two, or 0.0, into that of the other.
+pub fn read_uth(bytes: &[u8], blocks: &mut [[u32; 4]], values: &mut [[f32; 2]]) -> Result<usize, Refusal> {
+    let room = blocks.len().min(values.len());
+    form::written(raw::uth(bytes, blocks, values), room)
+}
+
+/// The blocks of a humidity file. It is asked how many there are, with no room, and then read.
+pub fn uth(bytes: &[u8]) -> Result<Vec<UthBlock>, Refusal> {
+    let n = match read_uth(bytes, &mut [], &mut []) {
+        Err(Refusal { number: 18, place }) => place as usize,
+        other => return other.map(|_| vec![]),
+    };
+    let (mut blocks, mut values) = (vec![[0; 4]; n], vec![[0.0; 2]; n]);
+    read_uth(bytes, &mut blocks, &mut values)?;
+    let block = |([line, column, uth, csr], v): (&[u32; 4], &[f32; 2])| UthBlock {
+        line: *line,
+        column: *column,
+        uth: (*uth != 0).then_some(v[0]),
+        csr: (*csr != 0).then_some(v[1]),
+    };
+    Ok(blocks.iter().zip(&values).map(block).collect())
 }
 
 // ---- dates and times

@@ -9,6 +9,7 @@ pub mod lines;
 pub mod lookup;
 pub mod plain;
 pub mod seen;
+pub mod uth;
 pub mod values;
 pub mod vectors;
 pub mod watch;

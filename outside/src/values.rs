@@ -79,6 +79,15 @@ pub struct Scaled {
     pub scale: i8,
 }
 
+/// A block of a humidity file. UTH, in percent, or CSR, in Kelvin, is `None` where it is not finite.
+#[derive(Clone, Copy, Debug, PartialEq)]
+pub struct UthBlock {
+    pub line: u32,
+    pub column: u32,
+    pub uth: Option<f32>,
+    pub csr: Option<f32>,
+}
+
 /// What a meter shows of a scaled number.
 #[derive(Clone, Copy, Debug, PartialEq)]
 pub enum Reading {

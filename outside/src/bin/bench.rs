@@ -3,7 +3,7 @@ use outside::generate::{build, Product, Rng, Shape, GROUPS};
 use outside::leaves::read_header;
 use outside::values::Time;
 use outside::watch::Watch;
-use outside::{cut, fast, lookup, Arrival, Finished};
+use outside::{cut, fast, lookup, uth, Arrival, Finished};
 use std::cell::RefCell;
 use std::hint::black_box;
 use std::time::Instant;
@@ -223,6 +223,48 @@ fn looked_up(names: &[Vec<u8>], find: impl Fn(&[u8]) -> usize) {
     black_box(sum);
 }
 
+/// A humidity file of so many segments, each of as many blocks.
+fn humidity(segments: u32, blocks: u32) -> Vec<u8> {
+    let mut rng = Rng(14);
+    let mut bytes = vec![b' '; 642];
+    bytes[614..618].copy_from_slice(&segments.to_be_bytes());
+    for k in 0..segments {
+        let mut segment = vec![0; 36 + 72 * blocks as usize];
+        for (at, value) in [(0, 1 + k / 80 % 80), (4, 1 + k % 80), (32, blocks)] {
+            segment[at..at + 4].copy_from_slice(&value.to_be_bytes());
+        }
+        for block in segment[36..].chunks_mut(72) {
+            let csr = if rng.one_in(4) { f32::NAN } else { 230.0 + rng.below(400) as f32 / 10.0 };
+            block[8..12].copy_from_slice(&(rng.below(1000) as f32 / 10.0).to_be_bytes());
+            block[12..16].copy_from_slice(&csr.to_be_bytes());
+        }
+        bytes.extend(segment);
+    }
+    bytes
+}
+
+fn measure_uth(segments: u32, blocks: u32, runs: usize, times: usize) {
+    let bytes = &humidity(segments, blocks);
+    let n = (segments * blocks) as usize;
+    let rooms = &RefCell::new((vec![[0; 4]; n], vec![[0.0; 2]; n]));
+    println!("uth: {} bytes, {segments} segments of {blocks} blocks", bytes.len());
+    let all = rounds(
+        runs,
+        times,
+        vec![
+            ("uth", Box::new(|| assert_eq!(into(rooms, |b, v| uth::read(black_box(bytes), b, v)), Ok(n)))),
+            #[cfg(feature = "boundary")]
+            ("uth boundary", Box::new(|| assert_eq!(into(rooms, |b, v| boundary::read_uth(black_box(bytes), b, v)), Ok(n)))),
+        ],
+    );
+    ratio(&all, "uth boundary", "uth");
+}
+
+fn into<T>(rooms: &RefCell<(Vec<[u32; 4]>, Vec<[f32; 2]>)>, reader: impl FnOnce(&mut [[u32; 4]], &mut [[f32; 2]]) -> T) -> T {
+    let (blocks, values) = &mut *rooms.borrow_mut();
+    reader(blocks, values)
+}
+
 fn main() {
     let runs = std::env::var("RUNS").ok().and_then(|n| n.parse().ok()).unwrap_or(15).max(9);
     measure("even", || even(64, false), runs, 1);
@@ -247,6 +289,11 @@ fn main() {
         for (what, names) in &lookup::names() {
             measure_lookup(what, names, runs);
         }
+    }
+    if !left_out("uth") {
+        measure_uth(6_400, 1, runs, 20);
+        measure_uth(1, 6_400, runs, 20);
+        measure_uth(64, 1, runs, 1000);
     }
     if !left_out("cut") {
         let p = even(64, false);

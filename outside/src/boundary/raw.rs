@@ -25,6 +25,11 @@ extern "C" {
         room: *mut u8, room_len: usize, answer: &mut [u64; 4],
     );
 
+    #[rustfmt::skip]
+    fn wl_uth(
+        bytes: *const u8, len: usize, blocks: *mut [u32; 4], room: usize, values: *mut [f32; 2], values_room: usize, answer: &mut [u64; 4],
+    );
+
     fn wl_is_date(year: u16, month: u8, day: u8, answer: &mut [u64; 4]);
     fn wl_date_of(day: u16, answer: &mut [u64; 6]);
     fn wl_day_number(year: u16, month: u8, day: u8, answer: &mut [u64; 4]);
@@ -196,6 +201,12 @@ pub fn ground_point(bytes: &[u8], which: u8, point: &mut [f64; 2]) -> [u64; 4] {
 pub fn listing(bytes: &[u8], text: &mut [u8]) -> [u64; 4] {
     // SAFETY: as above.
     answered(|answer| unsafe { wl_listing(bytes.as_ptr(), bytes.len(), text.as_mut_ptr(), text.len(), answer) })
+}
+
+pub fn uth(bytes: &[u8], blocks: &mut [[u32; 4]], values: &mut [[f32; 2]]) -> [u64; 4] {
+    let (room, values_room) = (blocks.len(), values.len());
+    // SAFETY: as above.
+    answered(|answer| unsafe { wl_uth(bytes.as_ptr(), bytes.len(), blocks.as_mut_ptr(), room, values.as_mut_ptr(), values_room, answer) })
 }
 
 pub fn cut(bytes: &[u8], first: (u8, u16, u32), last: (u8, u16, u32), room: &mut [u8]) -> [u64; 4] {

@@ -6,7 +6,7 @@ use mir.ValLaws.{toZ-ofZ}
 use Rattle.meter.specs.Integer.{wordOf}
 use Rattle.told.specs.Told.{six}
 use Rattle.handheld.specs.Scaled.{scaled6}
-use Rattle.told.proofs.Laws.{widen}
+use Rattle.meter.proofs.Signs.{widen}
 use borrow.Author.Needs.{needs}
 use Rattle.handheld.proofs.scaled.put_scaled.Statement.{statement}
 use Rattle.handheld.proofs.scaled.put_scaled.Tie as tie

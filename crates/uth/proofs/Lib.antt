@@ -1,0 +1,12 @@
+pub mod BlockLaws
+pub mod Determined
+pub mod Example
+pub mod FieldLaws
+pub mod FindLaws
+pub mod JudgeLaws
+pub mod Longer
+pub mod PutLaws
+pub mod ReadLaws
+pub mod SegmentLaws
+pub mod Tiling
+pub mod ValueLaws

@@ -19,6 +19,7 @@ use Rattle.calendar.specs.Said.{Said, answer, refusal, refused}
 use Rattle.calendar.proofs.Range.{below, at}
 use Rattle.meter.specs.Integer.{beAt}
 use Rattle.meter.specs.Time.{isTime, timeAt}
+use Rattle.meter.specs.Scaled.{isScale}
 use Rattle.meter.proofs.ReadingLaws.{minus?, one-rounding}
 use Rattle.meter.specs.General.{digitsOf, numberOf, isGeneral, generalReadAt}
 use Rattle.record.specs.Header.{isClass, isGroup, isLead, isHeader, headerAt, headerReadAt}
@@ -363,7 +364,8 @@ unfolding ofInt ofBits round units odd size climb span
 thousand-is = refl
 
 pub degrees-rounded : (z : ℤ) → natAbs z ≤ 2 ^ 53 → degrees z ≡ round binary64 (minus? z) (natAbs z) 1000
-degrees-rounded z h = ap (div binary64 (ofInt binary64 z)) thousand-is ∙ one-rounding z 3 h (omega arith)
+unfolding isScale
+degrees-rounded z h = ap (div binary64 (ofInt binary64 z)) thousand-is ∙ one-rounding z (pos 3) refl h
 
 pub latitude-small : (end : Bool) → latitudeField end ≤ 51
 latitude-small true = omega arith

@@ -1,5 +1,5 @@
 -- `judge_cases::products::judge_into` is safe on every input; its contract asks no more.
--- The lent part of the index has as many places as are asked for. Assumes nothing.
+-- The lent part has as many places as are asked for. Assumes nothing.
 use lib.Seq.{length-take-le}
 use mathlib.Core.Path.{sym}
 use borrow.Author.Needs.{needs}
@@ -10,7 +10,7 @@ slice-relend-prefix-judge-finished : tie.Need-slice-relend-prefix-judge-finished
 slice-relend-prefix-judge-finished c = search needs
 
 slice-aggregate-judge-finished : tie.Need-slice-aggregate-judge-finished
-slice-aggregate-judge-finished c = sym (length-take-le (c .before .before .before .before .args .room) (c .before .before .before .before .args .index .now) (c .before .if1 .taken))
+slice-aggregate-judge-finished c = sym (length-take-le (c .before .before .before .args .room) (c .before .before .before .args .rows .now) (c .before .if1 .taken))
 
 judge-finished-requires : tie.Need-judge-finished-requires
 judge-finished-requires c κs = search needs

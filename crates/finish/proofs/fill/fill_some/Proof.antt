@@ -1,0 +1,66 @@
+-- `finish::fill::fill_some` meets its contract: the known stretch where it begins here, or what is read before it. Assumes nothing.
+use Prim.Native.Nat.{ℕ}
+use denote.Ref.{now}
+use borrow.Author.Needs.{needs}
+use mathlib.Core.Path.{sym, subst}
+use Rattle.judge.specs.Stretch.{Even}
+use Rattle.finish.proofs.fill.fill_some.Statement.{statement}
+use Rattle.finish.proofs.fill.fill_some.Tie as tie
+
+lesser-requires : tie.Need-lesser-requires
+lesser-requires c κs = search needs
+
+fill-even-requires : tie.Need-fill-even-requires
+fill-even-requires c κs =
+    let t = c .before .before in
+    let g = t .before in
+    let l = g .before .before in
+    let s = l .before .before .before in
+    let v = s .args .even in
+    record {
+      onward = s .pre .0;
+      some = t .if2 .taken;
+      most = l .lesser .ensures .1;
+      stop = v .end;
+      even = subst (λ (i : ℕ). Even (now (s .args .s)) (v .size) i (v .end)) (sym (g .if1 .taken)) (s .pre .1);
+      within = l .lesser .ensures .0;
+    }
+
+same-length : tie.Need-same-length
+same-length c = search needs
+
+same-length-2 : tie.Need-same-length-2
+same-length-2 c = search needs
+
+returns : tie.Need-returns
+returns c = search needs
+
+unknown-until-requires : tie.Need-unknown-until-requires
+unknown-until-requires c κs = search needs
+
+fill-alike-requires : tie.Need-fill-alike-requires
+fill-alike-requires c κs = search needs
+
+same-length-3 : tie.Need-same-length-3
+same-length-3 c = search needs
+
+same-length-4 : tie.Need-same-length-4
+same-length-4 c = search needs
+
+returns-2 : tie.Need-returns-2
+returns-2 c = search needs
+
+pub fill-some-spec : {M : Type 1} → statement M
+fill-some-spec =
+    tie.close
+    (tie.spec
+    lesser-requires
+    fill-even-requires
+    same-length
+    same-length-2
+    returns
+    unknown-until-requires
+    fill-alike-requires
+    same-length-3
+    same-length-4
+    returns-2)

@@ -6,8 +6,8 @@ use native.Mathlib.Omega.{arith}
 use mathlib.Core.Path.{_≡_, refl, sym, ap, _∙_}
 use mathlib.Core.Bool.{Bool, true, false, true≢false, cond}
 use mathlib.Core.List.{List, [], _∷_}
-use borrow.Author.Tests.{le-leb, lt-leb, eq-eqb, ne-eqb, lt-ltb}
-use lib.Dec.{eqb, ltb}
+use borrow.Author.Tests.{lt-leb, eq-eqb, ne-eqb}
+use lib.Dec.{eqb}
 use lib.ListN.{length, getD, set, length-set}
 use lib.Seq.{getD-set-same, getD-set-other}
 use Rattle.record.specs.Header.{isGroup}
@@ -17,60 +17,58 @@ use Rattle.finish.specs.Slots.{Known, columnOf, slotOf, SlotIs, slotAt, 
 use Rattle.finish.specs.Fill.{Record}
 
 -- ---- columns
-pub low-column : (g : ℕ) → g ≤ 13 → columnOf g ≡ g
+pub last-column : (g : ℕ) → g ≡ 99 → columnOf g ≡ 14
 unfolding columnOf
-low-column g h = rw (le-leb g 13 h) refl
+last-column g e = rw (eq-eqb g 99 e) refl
 
-pub fifteenth : columnOf 15 ≡ 14
+pub own-column : (g : ℕ) → (g ≡ 99 → ⊥) → columnOf g ≡ g
 unfolding columnOf
-fifteenth = refl
+own-column g d = rw (ne-eqb g 99 d) refl
 
-pub last : columnOf 99 ≡ 15
-unfolding columnOf
-last = refl
-
-pub high-group : (g : ℕ) → isGroup g ≡ true → 13 < g → (g ≡ 15 → ⊥) → g ≡ 99
+-- 14 is no group
+not-14 : (g : ℕ) → isGroup g ≡ true → g ≡ 14 → ⊥
 unfolding isGroup
-high-group g e h d = go (ℕ-discrete g 99)
+not-14 g e h = true≢false (sym e ∙ rw h refl)
+
+below-16 : (g : ℕ) → isGroup g ≡ true → (g ≡ 99 → ⊥) → g < 16
+unfolding isGroup
+below-16 g e d = go (decLe g 15)
   where
-    go : Dec (g ≡ 99) → g ≡ 99
-    go (yes z) = z
-    go (no z) = absurd (true≢false (sym e ∙ rw (lt-leb g 13 h, ne-eqb g 15 d, ne-eqb g 99 z)))
+    go : Dec (g ≤ 15) → g < 16
+    go (yes h) = omega arith
+    go (no n) = absurd (true≢false (sym e ∙ rw (lt-leb g 13 (omega (arith, n)), ne-eqb g 15 (λ z. omega (arith, n)), ne-eqb g 99 d) refl))
 
 -- the group of a column
 unfoldable backOf : ℕ → ℕ
-backOf x = cond (ltb x 14) x (cond (eqb x 14) 15 99)
+backOf x = cond (eqb x 14) 99 x
 
-low-back : (g : ℕ) → g ≤ 13 → backOf g ≡ g
+back-last : backOf 14 ≡ 99
 unfolding backOf
-low-back g h = rw (lt-ltb g 14 (omega arith)) refl
+back-last = refl
 
-back-15 : backOf 14 ≡ 15
+back-own : (x : ℕ) → (x ≡ 14 → ⊥) → backOf x ≡ x
 unfolding backOf
-back-15 = refl
-
-back-99 : backOf 15 ≡ 99
-unfolding backOf
-back-99 = refl
+back-own x d = rw (ne-eqb x 14 d) refl
 
 record Column (g : ℕ) : Type 0 where
   back : backOf (columnOf g) ≡ g
   below : columnOf g < 16
 
 column : (g : ℕ) → isGroup g ≡ true → Column g
-column g e = go (decLe g 13) (ℕ-discrete g 15)
+column g e = go (ℕ-discrete g 99)
   where
-    go : Dec (g ≤ 13) → Dec (g ≡ 15) → Column g
-    go (yes h) _ = let q = low-column g h in record { back = ap backOf q ∙ low-back g h; below = omega arith }
-    go (no n) (yes z) = let q : columnOf g ≡ 14 = ap columnOf z ∙ fifteenth in record { back = ap backOf q ∙ back-15 ∙ sym z; below = omega arith }
-    go (no n) (no m) =
-        let z = high-group g e (omega (arith, n)) m in
-        let q : columnOf g ≡ 15 = ap columnOf z ∙ last in
-        record { back = ap backOf q ∙ back-99 ∙ sym z; below = omega arith }
+    go : Dec (g ≡ 99) → Column g
+    go (yes z) = let q = last-column g z in record { back = ap backOf q ∙ back-last ∙ sym z; below = omega arith }
+    go (no d) =
+        let q = own-column g d in
+        record { back = ap backOf q ∙ back-own g (not-14 g e); below = omega (arith, below-16 g e d) }
+
+pub column-below : (g : ℕ) → isGroup g ≡ true → columnOf g < 16
+column-below g e = column g e .below
 
 -- ---- slots
-pub slot-is : (c x g s j : ℕ) → 1 ≤ c → c ≤ 8 → x < 16 → s < 256 → columnOf g ≡ x → j ≡ ((c - 1) * 16 + x) * 256 + s → SlotIs c g s j
-slot-is c x g s j l h u v e d = record { same = rw e d; below = omega arith; byte = v }
+pub slot-is : (c g s j : ℕ) → 1 ≤ c → c ≤ 8 → isGroup g ≡ true → s < 256 → j ≡ slotOf c g s → SlotIs c g s j
+slot-is c g s j l h u v e = record { same = e; below = omega (arith, column g u .below); byte = v }
 
 pub slot-below : {c g s : ℕ} → Known c g s → slotOf c g s < 32768
 slot-below {c} {g} {s} k = let b = column g (k .grouped) .below in omega (arith, k .one, k .eight, k .byte)

@@ -3,7 +3,7 @@ use Prim.Native.Nat.{ℕ, _+_, _-_, _*_, _≤_, _<_}
 use mathlib.Core.Path.{_≡_}
 use mathlib.Core.Bool.{true, cond}
 use mathlib.Core.List.{List}
-use lib.Dec.{eqb, leb}
+use lib.Dec.{eqb}
 use lib.ListN.{length, getD}
 use Rattle.record.specs.Header.{isGroup}
 use Rattle.judge.specs.Table.{classAt}
@@ -16,9 +16,10 @@ pub record Known (c g s : ℕ) : Type 0 where
   pub grouped : isGroup g ≡ true
   pub byte : s < 256
 
--- THE SLOT of a triple, of 32,768: 8 classes, the 16 groups of 002's Table 14, 256 subclasses
+-- THE SLOT of a triple, of 32,768: 8 classes, the 16 groups of 002's Table 14 (0 to 13, 15, and 99, which has the column of 14, since that is no
+-- group), 256 subclasses
 unfoldable pub columnOf : ℕ → ℕ
-columnOf g = cond (leb g 13) g (cond (eqb g 15) 14 15)
+columnOf g = cond (eqb g 99) 14 g
 
 abbrev pub slotOf : ℕ → ℕ → ℕ → ℕ
 slotOf c g s = ((c - 1) * 16 + columnOf g) * 256 + s

@@ -7,7 +7,7 @@ ghost use lib.ListN.{length};
 ghost use Rattle.record.specs.Header.{isGroup};
 ghost use Rattle.judge.specs.Table.{sizeAt};
 ghost use Rattle.finish.specs.Rows.{row};
-ghost use Rattle.finish.specs.Slots.{SlotIs};
+ghost use Rattle.finish.specs.Slots.{columnOf, SlotIs};
 ghost use Rattle.finish.specs.Fill.{Record, PutRow, PutsRow};
 
 fn wide(x: u8) -> usize
@@ -16,19 +16,19 @@ fn wide(x: u8) -> usize
     x as usize
 }
 
+// The column of a group. A processor picks one of two values without a guess, so that no header is waited for.
+fn column(group: u8) -> usize
+    ensures { λ r. ⌜ r ≡ columnOf group ⌝ }
+{
+    if group == 99 { 14 } else { wide(group) }
+}
+
 // The slot of a class, a group and a subclass among the counters.
 fn slot(class: u8, group: u8, subclass: u8) -> usize
     requires { ⌜ (1 ≤ class) × (class ≤ 8) × (isGroup group ≡ true) ⌝ }
     ensures { λ r. ⌜ SlotIs class group subclass r ⌝ }
 {
-    let block = (wide(class) - 1) * 16;
-    if group <= 13 {
-        return (block + wide(group)) * 256 + wide(subclass);
-    }
-    if group == 15 {
-        return (block + 14) * 256 + wide(subclass);
-    }
-    (block + 15) * 256 + wide(subclass)
+    ((wide(class) - 1) * 16 + column(group)) * 256 + wide(subclass)
 }
 
 // The row of the record at `at`.

@@ -31,7 +31,7 @@ unique-arrival a (Waiting c e) (Refused x) h k = absurd (not-clean k (h .clean))
 unique-arrival a (Refused x) (Waiting c e) h k = absurd (not-clean h (k .clean))
 unique-arrival a (Refused x) (Refused y) h k = let u = unique-given h k in ap Refused (same-refusal x y (u .0) (u .1))
 
--- A REFUSAL IS FINAL: it is all that is right to say of every longer arrival, and of a product that is finished there; the index is kept
+-- A REFUSAL IS FINAL: it is all that is right to say of every longer arrival, and of a product that is finished there; the list of rows is kept
 module _ (a t : List ℕ) {n p : ℕ} (g : Given a n p) where
   pub refusal-kept : (r : Arrival) → Judged (a ++ t) r → r ≡ Refused (refusing n p)
   refusal-kept r j = unique-arrival (a ++ t) r (Refused (refusing n p)) j (stays-refused a t g)

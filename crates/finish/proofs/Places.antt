@@ -7,9 +7,15 @@ use mathlib.Core.Path.{_≡_, refl, sym, ap, _∙_}
 use mathlib.Core.List.{List, [], _∷_}
 use lib.ListN.{length, getD, set, length-set}
 use lib.Seq.{getD-set-same, getD-set-other}
+use Rattle.record.specs.Header.{headerAt}
 use Rattle.finish.specs.Finish.{starts, put, Filled}
-use Rattle.finish.specs.Rows.{rowsAfter, rowsOf}
+use Rattle.finish.specs.Rows.{row, rowsAfter, rowsOf}
 use Rattle.finish.proofs.Filling.{starts-count}
+
+-- a row is where its record starts, what the header there has, and the ordinal
+pub row-is : (a : List ℕ) (i n : ℕ) → let h = headerAt a i in row a i n ≡ i ∷ h .size ∷ h .class ∷ h .group ∷ h .subclass ∷ h .version ∷ n ∷ []
+unfolding headerAt
+row-is a i n = refl
 
 put-length : (k : ℕ) (l rows : List (List ℕ)) → length (put k l rows) ≡ length rows
 put-length k [] rows = refl

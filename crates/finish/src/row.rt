@@ -16,6 +16,12 @@ fn wide(x: u8) -> usize
     x as usize
 }
 
+fn number(x: u8) -> u32
+    ensures { λ r. ⌜ r ≡ x ⌝ }
+{
+    x as u32
+}
+
 // The column of a group. A processor picks one of two values without a guess, so that no header is waited for.
 fn column(group: u8) -> usize
     ensures { λ r. ⌜ r ≡ columnOf group ⌝ }
@@ -39,10 +45,10 @@ fn row_at(s: &[u8], at: usize, size: usize, ordinal: u32) -> [u32; 7]
     [
         at as u32,
         size as u32,
-        s[at] as u32,
-        s[at + 1] as u32,
-        s[at + 2] as u32,
-        s[at + 3] as u32,
+        number(s[at]),
+        number(s[at + 1]),
+        number(s[at + 2]),
+        number(s[at + 3]),
         ordinal,
     ]
 }

@@ -26,31 +26,10 @@ J c = c .before .before .before .before
 entire : (c : tie.After-known-told2) → Complete (now (S (J c) .args .s)) × Covered (now (S (J c) .args .s)) (c .before .extent2 .given .0 .0)
 entire c = let g = c .before .extent2 .given in told (J c) (Entire (g .0 .0)) (g .1)
 
-survey-requires : tie.Need-survey-requires
-survey-requires c κs = search needs
-
-enum-known-extent : tie.Need-enum-known-extent
-enum-known-extent c = search needs
-
-enum-told : tie.Need-enum-told
-enum-told c = search needs
-
-refused-requires : tie.Need-refused-requires
-refused-requires c κs = search needs
-
-enum-known-extent-2 : tie.Need-enum-known-extent-2
-enum-known-extent-2 c = search needs
-
-refused-requires-2 : tie.Need-refused-requires-2
-refused-requires-2 c κs = search needs
-
 returns : tie.Need-returns
 returns c =
     let k = c .before .before in
     refused-with (now (S (J k) .args .s)) _ (c .refused2 .ensures) (no-room (entire k .0) (entire k .1) (c .before .if1 .taken))
-
-slice-aggregate-fill : tie.Need-slice-aggregate-fill
-slice-aggregate-fill c = search needs
 
 fill-requires : tie.Need-fill-requires
 fill-requires c κs =
@@ -75,9 +54,6 @@ returns-3 c =
     let p = told j Part (c .before .enum-told .given .1) in
     refused-with (now (S j .args .s)) _ (c .refused .ensures) (short (p .0) (p .1))
 
-same-length : tie.Need-same-length
-same-length c = search needs
-
 returns-4 : tie.Need-returns-4
 returns-4 c =
     let f = c .before .before in
@@ -89,16 +65,16 @@ pub judge-finished-spec : {M : Type 1} → statement M
 judge-finished-spec =
     tie.close
     (tie.spec
-    survey-requires
-    enum-known-extent
-    enum-told
-    refused-requires
-    enum-known-extent-2
-    refused-requires-2
+    (λ c κs. search needs)
+    (λ c. search needs)
+    (λ c. search needs)
+    (λ c κs. search needs)
+    (λ c. search needs)
+    (λ c κs. search needs)
     returns
-    slice-aggregate-fill
+    (λ c. search needs)
     fill-requires
     returns-2
     returns-3
-    same-length
+    (λ c. search needs)
     returns-4)

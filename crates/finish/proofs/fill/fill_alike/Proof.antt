@@ -44,16 +44,10 @@ here c = c .size-at2 .ensures ∙ there (record-here (c .before))
 sized : (c : tie.Else1 Inv-loop μ-loop) → c .before .before .before .before .size-at .result ≡ sizeAt (now (St (c .before .before .before) .args .s)) (c .before .before .before .loop .end)
 sized c = sym (c .if1 .left) ∙ here (c .before)
 
-size-at-requires : tie.Need-size-at-requires Inv-loop μ-loop
-size-at-requires c κs = search needs
-
 loop-holds : tie.Need-loop-holds Inv-loop μ-loop
 loop-holds c =
     let p = c .before .before .before .pre in
     record { kept = λ rows₀ l f. f; from = omega arith; begun = λ _. c .size-at .ensures ∙ there (record-at (p .onward .filling) (p .onward .inside)) }
-
-size-at-requires-2 : tie.Need-size-at-requires-2 Inv-loop μ-loop
-size-at-requires-2 c κs = search needs
 
 same-length : tie.Need-same-length Inv-loop μ-loop
 same-length c = let l = c .before .before .before in known l .size ∙ sym (St l .pre .onward .filling .size)
@@ -106,9 +100,9 @@ fill-alike-spec =
     (tie.spec
     Inv-loop
     μ-loop
-    size-at-requires
+    (λ c κs. search needs)
     loop-holds
-    size-at-requires-2
+    (λ c κs. search needs)
     same-length
     same-length-2
     returns

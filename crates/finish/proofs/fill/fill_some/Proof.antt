@@ -7,9 +7,6 @@ use Rattle.judge.specs.Stretch.{Even}
 use Rattle.finish.proofs.fill.fill_some.Statement.{statement}
 use Rattle.finish.proofs.fill.fill_some.Tie as tie
 
-lesser-requires : tie.Need-lesser-requires
-lesser-requires c κs = search needs
-
 fill-even-requires : tie.Need-fill-even-requires
 fill-even-requires c κs =
     let t = c .before .before in
@@ -26,41 +23,17 @@ fill-even-requires c κs =
       within = l .lesser .ensures .0;
     }
 
-same-length : tie.Need-same-length
-same-length c = search needs
-
-same-length-2 : tie.Need-same-length-2
-same-length-2 c = search needs
-
-returns : tie.Need-returns
-returns c = search needs
-
-unknown-until-requires : tie.Need-unknown-until-requires
-unknown-until-requires c κs = search needs
-
-fill-alike-requires : tie.Need-fill-alike-requires
-fill-alike-requires c κs = search needs
-
-same-length-3 : tie.Need-same-length-3
-same-length-3 c = search needs
-
-same-length-4 : tie.Need-same-length-4
-same-length-4 c = search needs
-
-returns-2 : tie.Need-returns-2
-returns-2 c = search needs
-
 pub fill-some-spec : {M : Type 1} → statement M
 fill-some-spec =
     tie.close
     (tie.spec
-    lesser-requires
+    (λ c κs. search needs)
     fill-even-requires
-    same-length
-    same-length-2
-    returns
-    unknown-until-requires
-    fill-alike-requires
-    same-length-3
-    same-length-4
-    returns-2)
+    (λ c. search needs)
+    (λ c. search needs)
+    (λ c. search needs)
+    (λ c κs. search needs)
+    (λ c κs. search needs)
+    (λ c. search needs)
+    (λ c. search needs)
+    (λ c. search needs))

@@ -5,9 +5,6 @@ use borrow.Author.Needs.{needs}
 use Rattle.finish.proofs.row.column.Statement.{statement}
 use Rattle.finish.proofs.row.column.Tie as tie
 
-wide-requires : tie.Need-wide-requires
-wide-requires c κs = search needs
-
 returns : tie.Need-returns
 returns c = sym (last-column (c .before .args .group) (c .if1 .taken))
 
@@ -15,4 +12,4 @@ returns-2 : tie.Need-returns-2
 returns-2 c = c .wide .ensures ∙ sym (own-column (c .before .before .args .group) (c .before .if1 .left))
 
 pub column-spec : {M : Type 1} → statement M
-column-spec = tie.close (tie.spec wide-requires returns returns-2)
+column-spec = tie.close (tie.spec (λ c κs. search needs) returns returns-2)

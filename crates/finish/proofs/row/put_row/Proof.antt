@@ -18,53 +18,11 @@ few c =
     let e = c .slot .ensures in
     omega (arith, ap (λ (j : ℕ). getD (now (S c .args .counts)) j 0) (e .same), S c .pre .few (e .byte))
 
-shared-slice-read-slot : tie.Need-shared-slice-read-slot
-shared-slice-read-slot c = search needs
-
-add-slot : tie.Need-add-slot
-add-slot c = search needs
-
-shared-slice-read-slot-2 : tie.Need-shared-slice-read-slot-2
-shared-slice-read-slot-2 c = search needs
-
-add-slot-2 : tie.Need-add-slot-2
-add-slot-2 c = search needs
-
-shared-slice-read-slot-3 : tie.Need-shared-slice-read-slot-3
-shared-slice-read-slot-3 c = search needs
-
-slot-requires : tie.Need-slot-requires
-slot-requires c κs = search needs
-
-mul-ordinal : tie.Need-mul-ordinal
-mul-ordinal c = search needs
-
-slice-read-ordinal : tie.Need-slice-read-ordinal
-slice-read-ordinal c = search needs
-
 add-counts : tie.Need-add-counts
 add-counts c = record { fits = omega (arith, few (c .before)) }
 
-mul-counts : tie.Need-mul-counts
-mul-counts c = search needs
-
-slice-write-counts : tie.Need-slice-write-counts
-slice-write-counts c = search needs
-
 row-at-requires : tie.Need-row-at-requires
 row-at-requires c κs = let p = S (c .before) .pre in (p .here, p .small, p .sized)
-
-mul-t11 : tie.Need-mul-t11
-mul-t11 c = search needs
-
-slice-set-from-rows : tie.Need-slice-set-from-rows
-slice-set-from-rows c = search needs
-
-same-length : tie.Need-same-length
-same-length c = search needs
-
-same-length-2 : tie.Need-same-length-2
-same-length-2 c = search needs
 
 returns : tie.Need-returns
 returns c =
@@ -81,20 +39,20 @@ pub put-row-spec : {M : Type 1} → statement M
 put-row-spec =
     tie.close
     (tie.spec
-    shared-slice-read-slot
-    add-slot
-    shared-slice-read-slot-2
-    add-slot-2
-    shared-slice-read-slot-3
-    slot-requires
-    mul-ordinal
-    slice-read-ordinal
+    (λ c. search needs)
+    (λ c. search needs)
+    (λ c. search needs)
+    (λ c. search needs)
+    (λ c. search needs)
+    (λ c κs. search needs)
+    (λ c. search needs)
+    (λ c. search needs)
     add-counts
-    mul-counts
-    slice-write-counts
+    (λ c. search needs)
+    (λ c. search needs)
     row-at-requires
-    mul-t11
-    slice-set-from-rows
-    same-length
-    same-length-2
+    (λ c. search needs)
+    (λ c. search needs)
+    (λ c. search needs)
+    (λ c. search needs)
     returns)

@@ -10,26 +10,11 @@ use Rattle.finish.proofs.row.slot.Tie as tie
 below : (c : tie.After-column) → c .column .result < 16
 below c = let b = c .before .before in omega (arith, c .column .ensures, column-below (b .args .group) (b .pre .2))
 
-wide-requires : tie.Need-wide-requires
-wide-requires c κs = search needs
-
-sub-result : tie.Need-sub-result
-sub-result c = search needs
-
-mul-result : tie.Need-mul-result
-mul-result c = search needs
-
-column-requires : tie.Need-column-requires
-column-requires c κs = search needs
-
 add-result : tie.Need-add-result
 add-result c = omega (arith, below c)
 
 mul-result-2 : tie.Need-mul-result-2
 mul-result-2 c = omega (arith, below c)
-
-wide-requires-2 : tie.Need-wide-requires-2
-wide-requires-2 c κs = search needs
 
 add-result-2 : tie.Need-add-result-2
 add-result-2 c = omega (arith, below (c .before))
@@ -45,12 +30,12 @@ pub slot-spec : {M : Type 1} → statement M
 slot-spec =
     tie.close
     (tie.spec
-    wide-requires
-    sub-result
-    mul-result
-    column-requires
+    (λ c κs. search needs)
+    (λ c. search needs)
+    (λ c. search needs)
+    (λ c κs. search needs)
     add-result
     mul-result-2
-    wide-requires-2
+    (λ c κs. search needs)
     add-result-2
     returns)

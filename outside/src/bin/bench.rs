@@ -1,4 +1,4 @@
-//! Times of the judges on three large products, of the watch and of the cut: medians of runs taken in turn.
+//! Times of the judges on large products, of the watch and of the cut: medians of runs taken in turn. The finished judges fill the same rows.
 use outside::generate::{build, Product, Rng, Shape, GROUPS};
 use outside::leaves::read_header;
 use outside::values::Time;

@@ -16,11 +16,11 @@
  * A value that may be undefined is a 1 before its parts, or a 0 before zeros. A negative number stands in two's complement: cast it to int64_t.
  * A flag that is handed in (defined, signed_, which) is 0 or not 0; where `defined` is 0 the parts after it are not looked at.
  * A pointer with a length may be any valid pointer where the length is 0, but not NULL. What is lent to be written must not overlap with anything
- * else that is lent. A refusal writes nothing into a room, an index, a point or a value; what lies beyond what is written is kept.
+ * else that is lent. A refusal writes nothing into a room, a row, a point or a value; what lies beyond what is written is kept.
  *
  * WHAT COSTS WHAT. The judges read the main header's 3,307 bytes once, and of the other records the header and a pointer's 7 bytes alone, so a product
  * of 32 MiB in 100,000 records takes milliseconds. wl_record judges the arrival anew and walks to record k at each call: for all records of a product
- * ask wl_finished once and wl_read_header at each start. A field query judges the main header anew at each call, some microseconds; the ground point
+ * ask wl_finished once, and wl_read_header at each start where a record's times are wanted. A field query judges the main header anew at each call, some microseconds; the ground point
  * twice. A part that is fed to a watch costs some 4 KiB of copying besides its records, so parts of a few KiB or more are best. Nothing allocates, and
  * no call keeps anything of an earlier one but in the watch that it is lent.
  */
@@ -196,9 +196,22 @@ void wl_arrival(const uint8_t *bytes, size_t len, uint64_t answer[4]);
  * refusal 1 to 16. An arrival of which this says 1 is accepted by wl_finished. */
 void wl_extent(const uint8_t *bytes, size_t len, uint64_t answer[4]);
 
-/* A finished product: 0, 0, the count of records, 0, with the records' starts at index[0] to index[count - 1] and the other places kept; or the
- * refusal 1 to 16, 17 with the length, or 18 with the count where `room`, the places of the index, is less. Lend none to learn the count. */
-void wl_finished(const uint8_t *bytes, size_t len, uint32_t *index, size_t room, uint64_t answer[4]);
+/* ---- what stands where in a record's row */
+enum wl_row {
+    WL_START = 0,    /* where it starts, from the product's first byte */
+    WL_SIZE = 1,
+    WL_CLASS = 2,
+    WL_GROUP = 3,
+    WL_SUBCLASS = 4,
+    WL_VERSION = 5,
+    WL_ORDINAL = 6,  /* how many records before it have its class, group and subclass */
+    WL_ROW = 7       /* numbers in a row */
+};
+
+/* A finished product: 0, 0, the count of records, 0, with the records' rows at rows[0] to rows[count - 1], the main header's first, and the other
+ * rows kept; or the refusal 1 to 16, 17 with the length, or 18 with the count where `room`, the rows that are lent, is less. Lend none to learn the
+ * count. It takes 128 KiB of the stack for the ordinals. */
+void wl_finished(const uint8_t *bytes, size_t len, uint32_t (*rows)[7], size_t room, uint64_t answer[4]);
 
 /* ---- the watch: a product that arrives in parts and is not kept */
 

@@ -3,7 +3,7 @@ pub mod form;
 pub mod raw;
 
 use crate::values::{Date, Field, GroundPoint, Header, Moment, Reading, Record, Refusal, Scaled, Time, UthBlock, Which};
-use crate::{Arrival, Finished};
+use crate::{Arrival, Finished, Row};
 use std::cmp::Ordering;
 use std::io;
 
@@ -37,9 +37,9 @@ pub fn extent(bytes: &[u8]) -> Result<Option<u64>, Refusal> {
     }
 }
 
-/// The records' starts go to the first places of the index.
-pub fn finished(bytes: &[u8], index: &mut [u32]) -> Finished {
-    match form::one(raw::finished(bytes, index)) {
+/// The records' rows go to the first places of the list.
+pub fn finished(bytes: &[u8], rows: &mut [Row]) -> Finished {
+    match form::one(raw::finished(bytes, rows)) {
         Ok(count) => Finished::Accepted { count },
         Err(Refusal { number, place }) => Finished::Refused { number, place },
     }

@@ -276,6 +276,18 @@ pub fn shape(rng: &mut Rng) -> Shape {
     Shape { first_version: rng.below(4) as u8, sphr, pointers, others, sorted: rng.one_in(2), rest: 0 }
 }
 
+/// The records, but for the main header, are of few groups and subclasses, so that many are of one kind; each pointer still names its target's.
+pub fn few_kinds(rng: &mut Rng, p: &mut Product) {
+    let kinds: Vec<[u8; 2]> = (0..1 + rng.below(4)).map(|_| [rng.pick(&GROUPS), rng.pick(&[0, 1, 2, 127, 254, 255])]).collect();
+    for s in &p.starts[1..] {
+        p.bytes[s + 1..s + 3].copy_from_slice(&rng.pick(&kinds));
+    }
+    for s in &p.pointers {
+        let target = u32_at(&p.bytes, s + 23) as usize;
+        p.bytes.copy_within(target..target + 3, s + 20);
+    }
+}
+
 /// The record a damage is aimed at: its place among the starts.
 fn aim(rng: &mut Rng, p: &Product) -> usize {
     if rng.one_in(3) {

@@ -24,6 +24,9 @@ pub enum Arrival {
     Waiting { count: u64, end: u64 },
 }
 
+/// A record's row (request Six): start, size, class, group, subclass, version, and the ordinal among the rows of its class, group and subclass.
+pub type Row = [u32; 7];
+
 /// What the finished judge says.
 #[derive(Clone, Copy, Debug, PartialEq, Eq)]
 pub enum Finished {

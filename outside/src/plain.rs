@@ -1,7 +1,8 @@
 //! The judges straight from 01's table: every fault there is, then the least of those shown.
 use crate::lines::{Kind, LAST_TOTAL_LINE, LINES, MAIN_SIZE, RECORDS_LINE, SIZE_LINE, STARTS};
 use crate::values::Date;
-use crate::{leap, Arrival, Finished};
+use crate::{leap, Arrival, Finished, Row};
+use std::collections::HashMap;
 
 /// Ordered as 01 gives them: the earliest shown, then the lowest number, then the lowest place.
 #[derive(Clone, Copy, Debug, PartialEq, Eq, PartialOrd, Ord)]
@@ -310,7 +311,23 @@ pub fn watched(bytes: &[u8]) -> Arrival {
     given(&found, shown_to_watch(&found, bytes.len()).first().copied())
 }
 
-pub fn finished(bytes: &[u8], index: &mut [u32]) -> Finished {
+/// "start, size, class, group, subclass, version, and the row's ordinal among rows of its triple, from 0"
+fn rows(bytes: &[u8], starts: &[u64]) -> Vec<Row> {
+    let mut seen = HashMap::<[u8; 3], u32>::new();
+    let mut row = |start: u64| {
+        let head = &bytes[start as usize..];
+        let size = u32::from_be_bytes(head[4..8].try_into().unwrap());
+        let triple = [head[0], head[1], head[2]];
+        let next = seen.entry(triple).or_default();
+        let ordinal = *next;
+        *next += 1;
+        let [class, group, subclass] = triple.map(u32::from);
+        [start as u32, size, class, group, subclass, head[3] as u32, ordinal]
+    };
+    starts.iter().map(|s| row(*s)).collect()
+}
+
+pub fn finished(bytes: &[u8], lent: &mut [Row]) -> Finished {
     let found = findings(bytes);
     if let Some(f) = least(&found, bytes.len()) {
         return Finished::Refused { number: f.number, place: f.place };
@@ -319,11 +336,9 @@ pub fn finished(bytes: &[u8], index: &mut [u32]) -> Finished {
     if !whole {
         return Finished::Refused { number: 17, place: bytes.len() as u64 };
     }
-    if index.len() < found.starts.len() {
+    if lent.len() < found.starts.len() {
         return Finished::Refused { number: 18, place: found.starts.len() as u64 };
     }
-    for (k, s) in found.starts.iter().enumerate() {
-        index[k] = *s as u32;
-    }
+    lent[..found.starts.len()].copy_from_slice(&rows(bytes, &found.starts));
     Finished::Accepted { count: found.starts.len() as u64 }
 }

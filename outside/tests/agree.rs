@@ -1,17 +1,17 @@
 //! Plain and fast agree, on generated cases and with the vectors.
 use outside::generate::{build, damage, prefix, product, shape, Made, Rng};
 use outside::leaves::read_header;
-use outside::{fast, leap, plain, seen, vectors, Arrival, Finished};
+use outside::{fast, leap, plain, seen, vectors, Arrival, Finished, Row};
 
 fn cases() -> usize {
     seen::cases(200_000)
 }
 
-const KEPT: u32 = 0xdead_beef;
+const KEPT: [u32; 7] = [0xdead_beef; 7];
 
 /// Whether a record of an accepted product has a time in a leap second.
-fn has_leap_second(bytes: &[u8], starts: &[u32]) -> bool {
-    let headers = starts.iter().map(|s| read_header(bytes, *s as usize).unwrap());
+fn has_leap_second(bytes: &[u8], rows: &[Row]) -> bool {
+    let headers = rows.iter().map(|[s, ..]| read_header(bytes, *s as usize).unwrap());
     headers.flat_map(|h| [h.start, h.stop]).flatten().any(|t| t.milli > leap::USUAL_LAST_MILLI)
 }
 
@@ -44,7 +44,7 @@ fn generated() {
             let (mut i, mut j) = (vec![KEPT; room], vec![KEPT; room]);
             let (a, b) = (plain::finished(bytes, &mut i), fast::finished(bytes, &mut j));
             assert_eq!(a, b, "finished {n} {made:?} at {} room {room}", bytes.len());
-            assert_eq!(i, j, "index {n} {made:?} at {} room {room}", bytes.len());
+            assert_eq!(i, j, "rows {n} {made:?} at {} room {room}", bytes.len());
             match a {
                 Finished::Refused { number, .. } => {
                     finishes[number as usize] += 1;

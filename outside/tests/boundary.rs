@@ -5,7 +5,7 @@ use outside::seen::{cases, Seen};
 use outside::values::Refusal;
 use outside::{boundary, fast, plain, vectors, Arrival, Finished};
 
-const KEPT: u32 = 0xdead_beef;
+const KEPT: [u32; 7] = [0xdead_beef; 7];
 
 fn note_arrival(seen: &mut Seen, answer: Arrival) {
     let answer = match answer {
@@ -23,13 +23,13 @@ fn note_finished(seen: &mut Seen, answer: Finished) {
     seen.note(&answer, |_| "accepted");
 }
 
-/// Lends both an index of so many places, with one more on each side: one answer, the same places.
+/// Lends both a list of so many places, with one more on each side: one answer, the same rows.
 #[track_caller]
 fn same_finished(bytes: &[u8], room: usize) -> Finished {
     let (mut i, mut j) = (vec![KEPT; room + 2], vec![KEPT; room + 2]);
     let ours = plain::finished(bytes, &mut i[1..=room]);
     assert_eq!(ours, boundary::finished(bytes, &mut j[1..=room]), "wl_finished at {} room {room}", bytes.len());
-    assert_eq!(i, j, "index at {} room {room}", bytes.len());
+    assert_eq!(i, j, "rows at {} room {room}", bytes.len());
     ours
 }
 

@@ -38,8 +38,9 @@ fn same_at_boundary(bytes: &[u8], window: [Option<Time>; 2], right: &[u8], answe
     }
     if let (Ok(n), true) = (answer, bytes.len() < 10_000) {
         assert_eq!(boundary::cut(bytes, window[0], window[1]).as_deref(), Ok(&right[..n]));
-        let mut index = vec![0; n / 20];
-        assert_eq!(boundary::finished(&right[..n], &mut index), plain::finished(&right[..n], &mut vec![0; n / 20]));
+        let [mut rows, mut plainly] = [(); 2].map(|()| vec![[0; 7]; n / 20]);
+        assert_eq!(boundary::finished(&right[..n], &mut rows), plain::finished(&right[..n], &mut plainly));
+        assert_eq!(rows, plainly);
         let (mut text, mut listed) = ([0; 16_384], [0; 16_384]);
         assert_eq!(boundary::listing(&right[..n], &mut text), leaves::listing(&right[..n], &mut listed));
         assert!(text == listed);
@@ -133,10 +134,10 @@ fn of_classes<'a>(all: &[(Header, &'a [u8])], from: u8, to: u8) -> Vec<&'a [u8]>
 
 /// What the request says of a result, read off it.
 fn check_result(bytes: &[u8], [first, last]: [Option<Time>; 2], result: &[u8]) {
-    let mut index = vec![0; result.len() / 20];
-    let verdict = plain::finished(result, &mut index);
+    let mut rows = vec![[0; 7]; result.len() / 20];
+    let verdict = plain::finished(result, &mut rows);
     assert!(matches!(verdict, Finished::Accepted { .. }), "{verdict:?}");
-    assert_eq!(fast::finished(result, &mut index), verdict);
+    assert_eq!(fast::finished(result, &mut rows), verdict);
     let (before, after) = (records(bytes), records(result));
     for (from, to) in [(2, 2), (4, 7)] {
         assert_eq!(of_classes(&before, from, to), of_classes(&after, from, to));

@@ -1,4 +1,4 @@
--- DEMAND 2: the finished judge accepts, given room, just what is a product (`Meets`), with that product's list in the index; and one thing at most
+-- DEMAND 2: the finished judge accepts, given room, just what is a product (`Meets`), with the rows of that product's list; and one thing at most
 -- is right to say of a finished product. Forward, each field of `Meets` holds since no row of the table does; backward, of a product no row holds,
 -- by induction on its list; the totals by one count of the records on a way. Assumes nothing.
 use Prim.Native.Nat.{ℕ, suc, _+_, _≤_, _<_}
@@ -26,6 +26,7 @@ use Rattle.judge.specs.Table.{Site, first, classAt, kindAt, sizeAt, offsetAt, a
 use Rattle.judge.specs.declared.arrival.Extent.{Extent}
 use Rattle.judge.specs.declared.arrival.Extent.the-variants as X
 use Rattle.judge.specs.Extent.{ExtentIs, Complete, Covered}
+use Rattle.finish.specs.Rows.{rowsOf}
 use Rattle.finish.specs.Finish.{starts, put, Refuses, faulty, short, no-room, FinishedIs}
 use Rattle.demands.specs.Product.{class, kind, size, targetKind, offset, MainHeader, IsRecord, Aims, Records, none, more, ofClass, Meets}
 use Rattle.finish.specs.declared.Finished.{Finished}
@@ -366,25 +367,25 @@ covers m v =
 
 -- ---- THE THEOREMS
 
--- 1. what is accepted is a product; the count is that of its records, with the main header; the index holds their starts and is kept elsewhere
+-- 1. what is accepted is a product; the count is that of its records, with the main header; the list holds their rows and is kept elsewhere
 pub accepted-meets :
-    {a ix ix′ : List ℕ} {c : ℕ} → FinishedIs a ix (Accepted c) ix′
-    → (m : Meets a) × (c ≡ suc (length (m .list))) × (ix′ ≡ put 0 (0 ∷ m .list) ix)
+    {a : List ℕ} {rows rows′ : List (List ℕ)} {c : ℕ} → FinishedIs a rows (Accepted c) rows′
+    → (m : Meets a) × (c ≡ suc (length (m .list))) × (rows′ ≡ put 0 (rowsOf a (0 ∷ m .list)) rows)
 unfolding complete-meets
 accepted-meets f =
     let m = complete-meets (f .complete) (f .filled .covered) in
     (m, covers m (f .filled .covered) .0, f .filled .index)
 
--- 2. a product is accepted where the index has room, and nothing else may be said of it
+-- 2. a product is accepted where the list has room, and nothing else may be said of it
 pub meets-accepted :
-    (a ix ix′ : List ℕ) (m : Meets a) → suc (length (m .list)) ≤ length ix → (r : Finished) → FinishedIs a ix r ix′
-    → (r ≡ Accepted (suc (length (m .list)))) × (ix′ ≡ put 0 (0 ∷ m .list) ix)
-meets-accepted a ix ix′ m h (Accepted c) f =
+    (a : List ℕ) (rows rows′ : List (List ℕ)) (m : Meets a) → suc (length (m .list)) ≤ length rows → (r : Finished) → FinishedIs a rows r rows′
+    → (r ≡ Accepted (suc (length (m .list)))) × (rows′ ≡ put 0 (rowsOf a (0 ∷ m .list)) rows)
+meets-accepted a rows rows′ m h (Accepted c) f =
     let v = covers m (f .filled .covered) in
-    (ap Accepted (v .0), f .filled .index ∙ ap (λ (l : List ℕ). put 0 (0 ∷ l) ix) (v .1))
-meets-accepted a ix ix′ m h (Refused r) (f, _) = absurd (go f)
+    (ap Accepted (v .0), f .filled .index ∙ ap (λ (l : List ℕ). put 0 (rowsOf a (0 ∷ l)) rows) (v .1))
+meets-accepted a rows rows′ m h (Refused r) (f, _) = absurd (go f)
   where
-    go : {n p : ℕ} → Refuses a (length ix) n p → ⊥
+    go : {n p : ℕ} → Refuses a (length rows) n p → ⊥
     go (faulty g) = not-clean g (meets-complete m .clean)
     go (short _ s) = ⊎-elim (λ z. omega (arith, m .header .least, m .come)) (λ z. omega (arith, m .come)) s
     go (no-room _ v l) = omega (arith, covers m v .0)
@@ -401,18 +402,18 @@ pub complete-is-product : {a : List ℕ} → Complete a → Meets a
 complete-is-product k = complete-meets k (complete-covered k .1)
 
 -- 5. one thing at most is right to say, and to write
-pub unique-finished : (a ix : List ℕ) (r s : Finished) (x y : List ℕ) → FinishedIs a ix r x → FinishedIs a ix s y → (r ≡ s) × (x ≡ y)
-unique-finished a ix (Accepted c) s x y f g =
+pub unique-finished : (a : List ℕ) (rows : List (List ℕ)) (r s : Finished) (x y : List (List ℕ)) → FinishedIs a rows r x → FinishedIs a rows s y → (r ≡ s) × (x ≡ y)
+unique-finished a rows (Accepted c) s x y f g =
     let m = accepted-meets f in
-    let k = meets-accepted a ix y (m .0) (omega (arith, m .1, f .filled .fits)) s g in
+    let k = meets-accepted a rows y (m .0) (omega (arith, m .1, f .filled .fits)) s g in
     (ap Accepted (m .1) ∙ sym (k .0), m .2 ∙ sym (k .1))
-unique-finished a ix (Refused r) (Accepted c) x y f g =
+unique-finished a rows (Refused r) (Accepted c) x y f g =
     let m = accepted-meets g in
-    let k = meets-accepted a ix x (m .0) (omega (arith, m .1, g .filled .fits)) (Refused r) f in
+    let k = meets-accepted a rows x (m .0) (omega (arith, m .1, g .filled .fits)) (Refused r) f in
     (k .0 ∙ ap Accepted (sym (m .1)), k .1 ∙ sym (m .2))
-unique-finished a ix (Refused r) (Refused s) x y (f, e) (g, d) = let u = go f g in (ap Refused (same-refusal r s (u .0) (u .1)), e ∙ sym d)
+unique-finished a rows (Refused r) (Refused s) x y (f, e) (g, d) = let u = go f g in (ap Refused (same-refusal r s (u .0) (u .1)), e ∙ sym d)
   where
-    go : {n p n′ p′ : ℕ} → Refuses a (length ix) n p → Refuses a (length ix) n′ p′ → (n ≡ n′) × (p ≡ p′)
+    go : {n p n′ p′ : ℕ} → Refuses a (length rows) n p → Refuses a (length rows) n′ p′ → (n ≡ n′) × (p ≡ p′)
     go (faulty g) (faulty h) = unique-given g h
     go (faulty g) (short c s) = absurd (not-clean g c)
     go (faulty g) (no-room k v l) = absurd (not-clean g (k .clean))

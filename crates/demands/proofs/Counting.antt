@@ -7,7 +7,7 @@ use native.Mathlib.Omega.{arith}
 use mathlib.Core.Path.{_≡_, refl, sym, ap, _∙_}
 use mathlib.Core.Bool.{_&&_, true}
 use mathlib.Core.Logic.{inl, inr, ⊎-elim}
-use mathlib.Core.List.{List, _∷_, _++_}
+use mathlib.Core.List.{List, [], _∷_, _++_}
 use borrow.Author.Tests.{eqb-true}
 use lib.Dec.{eqb}
 use lib.ListN.{length, getD}
@@ -19,13 +19,16 @@ use Rattle.mphr.specs.Table.{headed}
 use Rattle.mphr.specs.Table as M
 use Rattle.judge.specs.Table.{Site, site, first, next, Leads, here, on, main, Clean, Open}
 use Rattle.judge.specs.Extent.{Complete, Covered}
+use Rattle.finish.specs.Rows.{startOf}
 use Rattle.finish.specs.Finish.{starts, Filled}
+use Rattle.finish.proofs.Filling.{starts-count}
+use Rattle.finish.proofs.Places.{row-there}
+use Rattle.finish.proofs.Starts.{start-of-row}
 use Rattle.judge.proofs.WayLaws.{leads-le}
 use Rattle.judge.proofs.Local.{be-on, OpenAt, no-fewer}
 use Rattle.judge.proofs.Covering.{whole-come}
 use Rattle.demands.specs.Product.{size}
 use Rattle.demands.specs.Demands.{start, Counted, Stays, Grows}
-use Rattle.demands.proofs.Put.{put-at}
 
 -- ---- the main header
 pub main-size : (a : List ℕ) → headed a ≡ true → size a 0 ≡ 3307
@@ -69,10 +72,6 @@ starts-at : {a : List ℕ} {x y : Site} (l : Leads a x y) → start a (x .count)
 starts-at here e j h = absurd (omega arith)
 starts-at {a} {x} (on s l) e zero h = sym e ∙ ap (start a) (omega arith)
 starts-at {a} {x} (on s l) e (suc j) h = starts-at l (start-next a (x .count) (x .at) e) j (omega arith) ∙ ap (start a) (omega arith)
-
-starts-length : {a : List ℕ} {x y : Site} (l : Leads a x y) → x .count + length (starts l) ≡ y .count
-starts-length here = omega arith
-starts-length (on s l) = omega (arith, starts-length l)
 
 -- ---- WHAT IS COUNTED
 -- a record after the main header
@@ -129,16 +128,16 @@ ends-whole {a} {c} k v = record {
   );
 }
 
--- and its index has the starts of its records
-pub indexed : {a ix ix′ : List ℕ} {c : ℕ} → Complete a → Filled a ix c ix′ → (k : ℕ) → k < c → getD ix′ k 0 ≡ start a k
+-- and its rows have the starts of its records
+pub indexed : {a : List ℕ} {rows rows′ : List (List ℕ)} {c : ℕ} → Complete a → Filled a rows c rows′ → (k : ℕ) → k < c → startOf (getD rows′ k []) ≡ start a k
 unfolding start
-indexed {a} {ix} {ix′} {c} q f k h = ap (λ (y : List ℕ). getD y k 0) (f .index) ∙ put-at 0 (0 ∷ l) ix k k (omega arith) (omega (arith, long)) (omega (arith, long, f .fits)) ∙ go k refl
+indexed {a} {c = c} q f k h = ap startOf (row-there f k h) ∙ start-of-row a (0 ∷ l) k (omega (arith, long)) ∙ go k refl
   where
     l : List ℕ
     l = starts (f .covered .way)
 
     long : 1 + length l ≡ c
-    long = starts-length (f .covered .way) ∙ f .covered .counted
+    long = starts-count (f .covered .way) ∙ f .covered .counted
 
     go : (j : ℕ) → k ≡ j → getD (0 ∷ l) k 0 ≡ start a k
     go zero e = rw e refl

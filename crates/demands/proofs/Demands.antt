@@ -4,7 +4,7 @@
 use Prim.Native.Nat.{ℕ, _≤_, _<_}
 use native.Mathlib.Omega.{arith}
 use mathlib.Core.Path.{_≡_, refl, sym, _∙_}
-use mathlib.Core.List.{List, _++_}
+use mathlib.Core.List.{List, [], _++_}
 use lib.ListN.{length, getD}
 use Rattle.calendar.specs.declared.Refusal.{Refusal}
 use Rattle.tables.specs.Table.{fault}
@@ -12,6 +12,7 @@ use Rattle.tables.proofs.Laws.{given, not-clean, number-is, nothing-earlier, ne
 use Rattle.judge.specs.Table.{table, Clean, Gives, Given, Judged}
 use Rattle.judge.specs.declared.arrival.Arrival.{Arrival}
 use Rattle.judge.specs.declared.arrival.Arrival.the-variants.{Waiting, Refused}
+use Rattle.finish.specs.Rows.{startOf}
 use Rattle.finish.specs.Finish.{Refuses, faulty, short, no-room, FinishedIs}
 use Rattle.finish.specs.declared.Finished.the-variants as F
 use Rattle.judge.proofs.WayLaws.{numbers}
@@ -35,12 +36,12 @@ pub demand-1 : Demand1
 demand-1 = record {
   arrival = λ a r g. given-number g;
   extent = λ a r g. given-number g;
-  finished = λ a ix ix′ r f. let n = refused-number (f .0) in (n .0, n .1, f .1);
+  finished = λ a rows rows′ r f. let n = refused-number (f .0) in (n .0, n .1, f .1);
 }
 
 -- ---- DEMAND 2
 pub demand-2 : Demand2
-demand-2 = record { only = λ a ix ix′ c f. accepted-meets f; every = meets-accepted }
+demand-2 = record { only = λ a rows rows′ c f. accepted-meets f; every = meets-accepted }
 
 -- ---- DEMAND 3
 -- an arrival that shows no fault is not refused
@@ -60,16 +61,16 @@ comes a r g = record {
     at-prefix e = rw e (g .gives)
 
 accepted :
-    (a t ix ix′ : List ℕ) (c e n : ℕ) → Judged a (Waiting c e) → FinishedIs (a ++ t) ix (F.Accepted n) ix′
-    → Grows a c e (a ++ t) n (length (a ++ t)) × ((k : ℕ) → k < n → getD ix′ k 0 ≡ start (a ++ t) k)
-accepted a t ix ix′ c e n o f =
+    (a t : List ℕ) (rows rows′ : List (List ℕ)) (c e n : ℕ) → Judged a (Waiting c e) → FinishedIs (a ++ t) rows (F.Accepted n) rows′
+    → Grows a c e (a ++ t) n (length (a ++ t)) × ((k : ℕ) → k < n → startOf (getD rows′ k []) ≡ start (a ++ t) k)
+accepted a t rows rows′ c e n o f =
     let v = f .filled .covered in
     (rw (v .ends ∙ sym (whole-come (f .complete))) at (grows o t (ends-whole (f .complete) v)), indexed (f .complete) (f .filled))
 
 pub demand-3 : Demand3
 demand-3 = record {
   final = λ a t r g. refusal-kept a t g;
-  final-finished = λ a t r g ix ix′ s f. refusal-final a t g ix s ix′ f .0;
+  final-finished = λ a t r g rows rows′ s f. refusal-final a t g rows s rows′ f .0;
   counted = λ a c e o. counts-are o;
   waiting = λ a t c e n d o q. grows o t q;
   accepted = accepted;

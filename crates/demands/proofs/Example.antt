@@ -27,6 +27,7 @@ use Rattle.record.specs.Follow.{firstAfter, mayFollow}
 use Rattle.record.specs.Times.{timedAt}
 use Rattle.mphr.specs.Layout.{fields, widths, kinds, rows, names, widthOf, kindOf, lineStart, bytesOf}
 use Rattle.mphr.specs.Table.{headed, timed, named, framed, valued, declared, total, sum}
+use Rattle.finish.specs.Rows.{rowsOf}
 use Rattle.finish.specs.Finish.{put, FinishedIs}
 use Rattle.finish.specs.declared.Finished.{Finished}
 use Rattle.finish.specs.declared.Finished.the-variants.{Accepted}
@@ -304,9 +305,22 @@ example-meets = product-meets example (3307 ∷ []) example-test
 pub richer-meets : Meets richer
 richer-meets = product-meets richer (3307 ∷ 3327 ∷ 3354 ∷ 3381 ∷ 3401 ∷ []) richer-test
 
+-- ITS ROWS: of the two pointers the second has ordinal 1, of each other triple there is one record
+pub richer-rows :
+    rowsOf richer (0 ∷ richer-meets .list)
+    ≡ ((0 ∷ 3307 ∷ 1 ∷ 0 ∷ 0 ∷ 2 ∷ 0 ∷ [])
+    ∷ (3307 ∷ 20 ∷ 2 ∷ 9 ∷ 0 ∷ 1 ∷ 0 ∷ [])
+    ∷ (3327 ∷ 27 ∷ 3 ∷ 0 ∷ 0 ∷ 1 ∷ 0 ∷ [])
+    ∷ (3354 ∷ 27 ∷ 3 ∷ 0 ∷ 0 ∷ 1 ∷ 1 ∷ [])
+    ∷ (3381 ∷ 20 ∷ 5 ∷ 9 ∷ 1 ∷ 1 ∷ 0 ∷ [])
+    ∷ (3401 ∷ 21 ∷ 8 ∷ 13 ∷ 1 ∷ 1 ∷ 0 ∷ [])
+    ∷ [])
+unfolding richer-meets product-meets richer product text beAt
+richer-rows = refl
+
 -- so whatever is right to say of the paper's, finished, with room for two, is that it is accepted with two records, at 0 and 3307
 pub example-accepted :
-    (ix ix′ : List ℕ) → 2 ≤ length ix → (r : Finished) → FinishedIs example ix r ix′
-    → (r ≡ Accepted 2) × (ix′ ≡ put 0 (0 ∷ 3307 ∷ []) ix)
+    (rows rows′ : List (List ℕ)) → 2 ≤ length rows → (r : Finished) → FinishedIs example rows r rows′
+    → (r ≡ Accepted 2) × (rows′ ≡ put 0 (rowsOf example (0 ∷ 3307 ∷ [])) rows)
 unfolding example-meets product-meets
-example-accepted ix ix′ h r f = meets-accepted example ix ix′ example-meets h r f
+example-accepted rows rows′ h r f = meets-accepted example rows rows′ example-meets h r f

@@ -1,7 +1,6 @@
 pub mod Prefix
 pub mod Accept
 pub mod Accepted
-pub mod Put
 pub mod Counting
 pub mod Demands
 pub mod Example

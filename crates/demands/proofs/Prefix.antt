@@ -31,16 +31,16 @@ unique-arrival a (Waiting c e) (Refused x) h k = absurd (not-clean k (h .clean))
 unique-arrival a (Refused x) (Waiting c e) h k = absurd (not-clean h (k .clean))
 unique-arrival a (Refused x) (Refused y) h k = let u = unique-given h k in ap Refused (same-refusal x y (u .0) (u .1))
 
--- A REFUSAL IS FINAL: it is all that is right to say of every longer arrival, and of a product that is finished there; the index is kept
+-- A REFUSAL IS FINAL: it is all that is right to say of every longer arrival, and of a product that is finished there; the list of rows is kept
 module _ (a t : List ℕ) {n p : ℕ} (g : Given a n p) where
   pub refusal-kept : (r : Arrival) → Judged (a ++ t) r → r ≡ Refused (refusing n p)
   refusal-kept r j = unique-arrival (a ++ t) r (Refused (refusing n p)) j (stays-refused a t g)
 
-  pub refusal-final : (ix : List ℕ) (r : Finished) (ix′ : List ℕ) → FinishedIs (a ++ t) ix r ix′ → (r ≡ refusedWith n p) × (ix′ ≡ ix)
-  refusal-final ix (F.Accepted c) ix′ f = absurd (not-clean (stays-refused a t g) (f .complete .clean))
-  refusal-final ix (F.Refused r) ix′ (f, e) = let u = go f in (ap F.Refused (same-refusal r (refusing n p) (u .0) (u .1)), e)
+  pub refusal-final : (rows : List (List ℕ)) (r : Finished) (rows′ : List (List ℕ)) → FinishedIs (a ++ t) rows r rows′ → (r ≡ refusedWith n p) × (rows′ ≡ rows)
+  refusal-final rows (F.Accepted c) rows′ f = absurd (not-clean (stays-refused a t g) (f .complete .clean))
+  refusal-final rows (F.Refused r) rows′ (f, e) = let u = go f in (ap F.Refused (same-refusal r (refusing n p) (u .0) (u .1)), e)
     where
-      go : {n′ p′ : ℕ} → Refuses (a ++ t) (length ix) n′ p′ → (n′ ≡ n) × (p′ ≡ p)
+      go : {n′ p′ : ℕ} → Refuses (a ++ t) (length rows) n′ p′ → (n′ ≡ n) × (p′ ≡ p)
       go (faulty h) = unique-given h (stays-refused a t g)
       go (short c _) = absurd (not-clean (stays-refused a t g) c)
       go (no-room c _ _) = absurd (not-clean (stays-refused a t g) (c .clean))

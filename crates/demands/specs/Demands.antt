@@ -1,9 +1,9 @@
--- THE MISSION'S THREE DEMANDS, over the judges' answers: `Judged a r` says that r is right to answer of the arrival a, `FinishedIs a ix r ix′` that r is
--- right to answer of the finished product a and that the index, ix before, is then ix′. Each judge ends with such an answer for any bytes: its
+-- THE MISSION'S THREE DEMANDS, over the judges' answers: `Judged a r` says that r is right to answer of the arrival a, `FinishedIs a rows r rows′` that
+-- r is right to answer of the finished product a and that the lent list, rows before, is then rows′. Each judge ends with such an answer for any bytes: its
 -- promise has no `requires`. Assumes nothing.
 use Prim.Native.Nat.{ℕ, zero, suc, _+_, _≤_, _<_}
 use mathlib.Core.Path.{_≡_}
-use mathlib.Core.List.{List, _∷_, _++_}
+use mathlib.Core.List.{List, [], _∷_, _++_}
 use lib.ListN.{length, getD}
 use Rattle.calendar.specs.declared.Refusal.{Refusal}
 use Rattle.tables.specs.Table.{fault}
@@ -12,6 +12,7 @@ use Rattle.judge.specs.Extent.{ExtentIs}
 use Rattle.judge.specs.declared.arrival.Arrival.{Arrival}
 use Rattle.judge.specs.declared.arrival.Arrival.the-variants.{Waiting, Refused}
 use Rattle.judge.specs.declared.arrival.Extent.the-variants as X
+use Rattle.finish.specs.Rows.{rowsOf, startOf}
 use Rattle.finish.specs.Finish.{put, FinishedIs}
 use Rattle.finish.specs.declared.Finished.{Finished}
 use Rattle.finish.specs.declared.Finished.the-variants as F
@@ -23,19 +24,19 @@ start a zero = 0
 start a (suc k) = start a k + size a (start a k)
 
 -- DEMAND 1. "Any bytes, of any length, may be handed in. Each entry judges its own input and ends with an answer or a numbered refusal with a place. A
--- refusal leaves each lent buffer as it came": a refusal has a number of the table, and the index is as it came
+-- refusal leaves each lent buffer as it came": a refusal has a number of the table, and the list of rows is as it came
 pub record Demand1 : Type 0 where
   pub arrival : (a : List ℕ) (r : Refusal) → Judged a (Refused r) → (1 ≤ r .number) × (r .number ≤ 16)
   pub extent : (a : List ℕ) (r : Refusal) → ExtentIs a (X.Refused r) → (1 ≤ r .number) × (r .number ≤ 16)
-  pub finished : (a ix ix′ : List ℕ) (r : Refusal) → FinishedIs a ix (F.Refused r) ix′ → (1 ≤ r .number) × (r .number ≤ 18) × (ix′ ≡ ix)
+  pub finished : (a : List ℕ) (rows rows′ : List (List ℕ)) (r : Refusal) → FinishedIs a rows (F.Refused r) rows′ → (1 ≤ r .number) × (r .number ≤ 18) × (rows′ ≡ rows)
 
--- DEMAND 2. "A product is accepted exactly when it meets the format" (`Meets`, Product.antt), given room for its starts. "The index then holds those
--- starts", from place 0 on, and what it held at the others
+-- DEMAND 2. "A product is accepted exactly when it meets the format" (`Meets`, Product.antt), given room for its rows. "The index then holds those
+-- starts": the list has the rows of its records (request Six), whose first numbers they are, from place 0 on, and what it held at the others
 pub record Demand2 : Type 0 where
-  pub only : (a ix ix′ : List ℕ) (c : ℕ) → FinishedIs a ix (F.Accepted c) ix′ → (m : Meets a) × (c ≡ suc (length (m .list))) × (ix′ ≡ put 0 (0 ∷ m .list) ix)
+  pub only : (a : List ℕ) (rows rows′ : List (List ℕ)) (c : ℕ) → FinishedIs a rows (F.Accepted c) rows′ → (m : Meets a) × (c ≡ suc (length (m .list))) × (rows′ ≡ put 0 (rowsOf a (0 ∷ m .list)) rows)
   pub every :
-      (a ix ix′ : List ℕ) (m : Meets a) → suc (length (m .list)) ≤ length ix → (r : Finished) → FinishedIs a ix r ix′
-      → (r ≡ F.Accepted (suc (length (m .list)))) × (ix′ ≡ put 0 (0 ∷ m .list) ix)
+      (a : List ℕ) (rows rows′ : List (List ℕ)) (m : Meets a) → suc (length (m .list)) ≤ length rows → (r : Finished) → FinishedIs a rows r rows′
+      → (r ≡ F.Accepted (suc (length (m .list)))) × (rows′ ≡ put 0 (rowsOf a (0 ∷ m .list)) rows)
 
 -- c records of a are whole, the first of them the main header of 3,307 bytes; the last ends at byte e
 pub record Counted (a : List ℕ) (c e : ℕ) : Type 0 where
@@ -66,13 +67,13 @@ pub record Comes (a : List ℕ) (r : Refusal) : Type 0 where
 pub record Demand3 : Type 0 where
   -- "A refusal of an arrival is final: every longer arrival, finished or not, gets the same number and place"
   pub final : (a t : List ℕ) (r : Refusal) → Judged a (Refused r) → (s : Arrival) → Judged (a ++ t) s → s ≡ Refused r
-  pub final-finished : (a t : List ℕ) (r : Refusal) → Judged a (Refused r) → (ix ix′ : List ℕ) (s : Finished) → FinishedIs (a ++ t) ix s ix′ → s ≡ F.Refused r
+  pub final-finished : (a t : List ℕ) (r : Refusal) → Judged a (Refused r) → (rows rows′ : List (List ℕ)) (s : Finished) → FinishedIs (a ++ t) rows s rows′ → s ≡ F.Refused r
   -- "What was counted stays, at the same place and size": what is counted; where the longer one waits; where it is accepted as a finished product,
-  -- whose index has the starts of its n records
+  -- whose rows have the starts of its n records
   pub counted : (a : List ℕ) (c e : ℕ) → Judged a (Waiting c e) → Counted a c e
   pub waiting : (a t : List ℕ) (c e n d : ℕ) → Judged a (Waiting c e) → Judged (a ++ t) (Waiting n d) → Grows a c e (a ++ t) n d
   pub accepted :
-      (a t ix ix′ : List ℕ) (c e n : ℕ) → Judged a (Waiting c e) → FinishedIs (a ++ t) ix (F.Accepted n) ix′
-      → Grows a c e (a ++ t) n (length (a ++ t)) × ((k : ℕ) → k < n → getD ix′ k 0 ≡ start (a ++ t) k)
+      (a t : List ℕ) (rows rows′ : List (List ℕ)) (c e n : ℕ) → Judged a (Waiting c e) → FinishedIs (a ++ t) rows (F.Accepted n) rows′
+      → Grows a c e (a ++ t) n (length (a ++ t)) × ((k : ℕ) → k < n → startOf (getD rows′ k []) ≡ start (a ++ t) k)
   -- "A refusal comes at the shortest arrival that shows the fault, never later"
   pub soonest : (a : List ℕ) (r : Refusal) → Judged a (Refused r) → Comes a r

@@ -1,100 +1,181 @@
--- The index's filling: what is known before each store. By the way that is left from the record at hand to the product's end. Assumes nothing.
+-- The rows' filling: what is known before each row. By the records that are left from the one at hand to the product's end. Assumes nothing.
 use Prim.Native.Nat.{ℕ, _+_, _-_, _≤_, _<_}
 use native.Mathlib.Decide.{ℕ-discrete}
 use native.Mathlib.Omega.{arith}
 use mathlib.Core.Path.{_≡_, refl, sym, ap, _∙_}
-use mathlib.Core.List.{List}
-use lib.ListN.{length, set, length-set}
-use Rattle.record.specs.Header.{sizeThere}
+use mathlib.Core.Bool.{Bool, true, false, _&&_}
+use mathlib.Core.List.{List, [], _∷_}
+use borrow.Author.Tests.{leb-true, eqb-true}
+use lib.Dec.{eqb, leb}
+use lib.ListN.{length, getD, set, length-set}
+use Rattle.meter.specs.Integer.{beAt}
+use Rattle.record.specs.Header.{sizeThere, isClass, isGroup}
 use Rattle.record.proofs.HeaderLaws.{size-there}
-use Rattle.judge.specs.Table.{Site, site, first, classAt, sizeAt, oneMore, Leads, here, on, next}
-use Rattle.finish.specs.Finish.{starts, put, Refuses, Filled, FinishedIs, refusedWith}
-use Rattle.finish.specs.Fill.{Fillable, Filling}
-use Rattle.finish.specs.declared.Finished.{Finished}
+use Rattle.record.proofs.FieldLaws.{both}
+use Rattle.mphr.specs.Table.{headed, declared, bad-header}
+use Rattle.mphr.proofs.Export.{sized}
+use Rattle.judge.specs.Table.{Site, first, classAt, sizeAt, Leads, here, on, unknown, at}
+use Rattle.judge.specs.Extent.{Complete, Covered}
 use Rattle.judge.specs.Stretch.{over, further}
 use Rattle.judge.specs.Stretch as J
-use Rattle.judge.proofs.WayLaws.{leads-le, counts, goes}
+use Rattle.judge.proofs.WayLaws.{leads-le, snoc}
+use Rattle.judge.proofs.Covering.{complete-fine, whole-come, head-here, sound-here}
+use Rattle.finish.specs.Finish.{starts, put, Refuses, Accepts, FinishedIs, refusedWith}
+use Rattle.finish.specs.declared.Finished.{Finished}
+use Rattle.finish.specs.Rows.{groupAt, subclassAt, ordinal, row, rowsAfter, rowsOf}
+use Rattle.finish.specs.Slots.{slotOf, slotAt}
+use Rattle.finish.specs.Fill.{Record, Ahead, none, more, Fillable, Filling, PutRow, PutsRow, Fills}
+use Rattle.finish.proofs.SlotLaws.{slot-below, known-here, counted-next, few}
 
-pub filling-first : {a ix : List ℕ} → Fillable a ix → Filling a (set ix 0 0) (set ix 0 0) 1 3307
-filling-first f = record {
-  asked = record { count = f .count; covered = f .covered; come = f .come; small = f .small; room = simp length-set (f .room) };
-  prev = first .prev;
-  tally = first .tally;
-  rest = f .covered .way;
-  counted = omega arith;
+-- ---- the records of a product
+module _ {a : List ℕ} (k : Complete a) where
+  known-kind : {x : Site} → Leads a first x → x .at < declared a → (1 ≤ classAt a (x .at)) × (classAt a (x .at) ≤ 8) × (isGroup (groupAt a (x .at)) ≡ true)
+  unfolding isClass
+  known-kind {x} w h = let p = both (isClass (classAt a (x .at))) (isGroup (groupAt a (x .at))) (go (isClass (classAt a (x .at)) && isGroup (groupAt a (x .at))) refl) in
+      let q = both (leb 1 (classAt a (x .at))) (leb (classAt a (x .at)) 8) (p .0) in
+      (leb-true 1 (classAt a (x .at)) (q .0), leb-true (classAt a (x .at)) 8 (q .1), p .1)
+    where
+      go : (b : Bool) → isClass (classAt a (x .at)) && isGroup (groupAt a (x .at)) ≡ b → isClass (classAt a (x .at)) && isGroup (groupAt a (x .at)) ≡ true
+      go true e = e
+      go false e = absurd (k .clean (at (complete-fine k) x w (unknown (head-here k w h) e)) (omega (arith, whole-come k, head-here k w h)))
+
+  record-here : {x : Site} → Leads a first x → x .at < declared a → Record a (x .at)
+  record-here w h =
+      let s = sound-here k w h in
+      let q = known-kind w h in
+      record { least = s .least; most = omega (arith, s .most, whole-come k); one = q .0; eight = q .1; grouped = q .2 }
+
+  ahead : {x y : Site} → Leads a first x → (l : Leads a x y) → y .at ≡ declared a → Ahead a (x .at) (starts l)
+  ahead {x} w here e = none {i = x .at} (omega (arith, whole-come k))
+  ahead w (on s l) e = more (record-here w (omega (arith, s .least, leads-le l))) (ahead (snoc w s) l e)
+
+  main-headed : headed a ≡ true
+  main-headed = go (headed a) refl
+    where
+      go : (b : Bool) → headed a ≡ b → headed a ≡ true
+      go true e = e
+      go false e = absurd (complete-fine k (bad-header e) (omega arith))
+
+  main-parts : (classAt a 0 ≡ 1) × (groupAt a 0 ≡ 0) × (subclassAt a 0 ≡ 0) × (sizeAt a 0 ≡ 3307)
+  unfolding headed
+  main-parts =
+      let p = both (eqb (getD a 0 0) 1 && (eqb (getD a 1 0) 0 && eqb (getD a 2 0) 0)) (eqb (beAt a 4 4) 3307) main-headed in
+      let q = both (eqb (getD a 0 0) 1) (eqb (getD a 1 0) 0 && eqb (getD a 2 0) 0) (p .0) in
+      let r = both (eqb (getD a 1 0) 0) (eqb (getD a 2 0) 0) (q .1) in
+      (eqb-true (getD a 0 0) 1 (q .0), eqb-true (getD a 1 0) 0 (r .0), eqb-true (getD a 2 0) 0 (r .1), eqb-true (beAt a 4 4) 3307 (p .1))
+
+  zero-group : isGroup 0 ≡ true
+  unfolding isGroup
+  zero-group = refl
+
+  pub all-ahead : {c : ℕ} (v : Covered a c) → Ahead a 0 (0 ∷ starts (v .way))
+  all-ahead v =
+      let m = main-parts in
+      let r : Record a 0 = record { least = omega (arith, m .3); most = omega (arith, m .3, k .header); one = omega (arith, m .0); eight = omega (arith, m .0); grouped = ap isGroup (m .1) ∙ zero-group } in
+      let e : 0 + sizeAt a 0 ≡ 3307 = omega (arith, m .3) in
+      let n : Ahead a (0 + sizeAt a 0) (starts (v .way)) = rw e (ahead here (v .way) (v .ends)) in
+      more r n
+
+pub starts-count : {a : List ℕ} {x y : Site} (l : Leads a x y) → x .count + length (starts l) ≡ y .count
+starts-count here = omega arith
+starts-count (on s l) = omega (arith, starts-count l)
+
+pub fillable : {a : List ℕ} {rows : List (List ℕ)} {c : ℕ} → Complete a → (v : Covered a c) → c ≤ length rows → Fillable a rows (0 ∷ starts (v .way))
+fillable k v h = record {
+  all = all-ahead k v;
+  small = omega (arith, whole-come k, sized (complete-fine k));
+  room = omega (arith, starts-count (v .way), v .counted);
+}
+
+-- ---- a turn
+step : {a l : List ℕ} {i : ℕ} → Ahead a i l → i < length a → (m : List ℕ) × (l ≡ i ∷ m) × Record a i × Ahead a (i + sizeAt a i) m
+step (none h) g = absurd (omega arith)
+step (more {l = m} r n) g = (m, refl, r, n)
+
+stop : {a l : List ℕ} {i : ℕ} → Ahead a i l → length a ≤ i → l ≡ []
+stop (none h) g = refl
+stop (more r n) g = absurd (omega (arith, r .least, r .most))
+
+pub filling-first : {a : List ℕ} {rows : List (List ℕ)} {l counts : List ℕ} → Fillable a rows l → length counts ≡ 32768 → ((j : ℕ) → j < 32768 → getD counts j 0 ≡ 0) → Filling a rows l rows counts 0 0
+filling-first {l = l} q e z = record {
+  asked = q;
+  before = [];
+  rest = l;
+  ahead = q .all;
+  counted = record { long = e; each = λ c g s k. z (slotOf c g s) (slot-below k) };
+  done = refl;
+  low = omega arith;
+  total = omega arith;
   size = refl;
   same = refl;
 }
 
--- the index has a place
-pub some-room : {a ix : List ℕ} → Fillable a ix → 0 < length ix
-some-room f = omega (arith, f .room, f .covered .counted, counts (f .covered .way))
+-- how many there were of a record's triple
+told : {a : List ℕ} {rows₀ : List (List ℕ)} {l : List ℕ} {rows : List (List ℕ)} {counts : List ℕ} {k i : ℕ}
+    → (f : Filling a rows₀ l rows counts k i) → Record a i → subclassAt a i < 256 → getD counts (slotAt a i) 0 ≡ ordinal a (f .before) i
+told {a} {i = i} f r b = f .counted .each (classAt a i) (groupAt a i) (subclassAt a i) (known-here r b)
 
--- what is known in a turn
-pub record Within (a ix : List ℕ) (k i : ℕ) : Type 0 where
-  pub small : i < 2147483647
-  pub low : k ≤ i
-  pub place : k < length ix
-  pub least : 20 ≤ sizeAt a i
-  pub most : i + sizeAt a i ≤ length a
-
-pub within : {a ix₀ ix : List ℕ} {k i : ℕ} → Filling a ix₀ ix k i → i < length a → Within a ix k i
-within f h =
-    let q = f .asked in
-    let e = goes (f .rest) (omega (arith, q .come, q .covered .ends)) in
-    record {
-      small = omega (arith, q .small);
-      low = f .counted;
-      place = omega (arith, counts (e .1), q .covered .counted, q .room, f .size);
-      least = e .0 .least;
-      most = omega (arith, e .0 .most, q .come);
-    }
+-- the record at hand
+pub record-at : {a : List ℕ} {rows₀ : List (List ℕ)} {l : List ℕ} {rows : List (List ℕ)} {counts : List ℕ} {k i : ℕ}
+    → Filling a rows₀ l rows counts k i → i < length a → Record a i
+record-at f h = step (f .ahead) h .2
 
 -- the size that is read there
-pub there : {a ix : List ℕ} {k i : ℕ} → Within a ix k i → sizeThere a i ≡ sizeAt a i
-there {a} {i = i} w = size-there a i (omega (arith, w .least, w .most))
+pub there : {a : List ℕ} {i : ℕ} → Record a i → sizeThere a i ≡ sizeAt a i
+there {a} {i} r = size-there a i (omega (arith, r .least, r .most))
 
-step : {a : List ℕ} (ix : List ℕ) {x y : Site} (l : Leads a x y) → x .at < y .at → (m : Leads a (next a x) y) × (put (x .count) (starts l) ix ≡ put (x .count + 1) (starts m) (set ix (x .count) (x .at)))
-step ix here h = absurd (omega arith)
-step ix (on s l) h = (l, refl)
-
-pub filling-next : {a ix₀ ix : List ℕ} {k i z : ℕ} → Filling a ix₀ ix k i → i < length a → z ≡ sizeAt a i → Filling a ix₀ (set ix k i) (k + 1) (i + z)
-filling-next {a} {ix₀} {ix} {k} {i} f h e =
-    let q = f .asked in
-    let m = step ix (f .rest) (omega (arith, q .come, q .covered .ends)) in
-    rw e (record {
-      asked = q;
-      prev = classAt a i;
-      tally = oneMore (f .tally) (classAt a i);
-      rest = m .0;
-      counted = omega (arith, f .counted, within f h .least);
-      size = simp length-set (f .size);
-      same = sym (m .1) ∙ f .same;
-    })
-
-ended : {a : List ℕ} (ix : List ℕ) {x y : Site} (l : Leads a x y) → y .at ≤ x .at → (x .count ≡ y .count) × (put (x .count) (starts l) ix ≡ ix)
-ended ix here h = (refl, refl)
-ended ix (on s l) h = absurd (omega (arith, s .least, leads-le l))
-
-pub filling-last : {a ix₀ ix : List ℕ} {k i : ℕ} → Filling a (set ix₀ 0 0) ix k i → length a ≤ i → Filled a ix₀ k ix
-filling-last {ix = ix} f h =
-    let q = f .asked in
-    let m = ended ix (f .rest) (omega (arith, q .come, q .covered .ends)) in
+pub filling-here : {a : List ℕ} {rows₀ : List (List ℕ)} {l : List ℕ} {rows : List (List ℕ)} {counts : List ℕ} {k i z : ℕ}
+    → Filling a rows₀ l rows counts k i → i < length a → z ≡ sizeAt a i → PutRow a rows counts k i z
+filling-here {a} {i = i} f h e =
+    let t = step (f .ahead) h in
+    let r = t .2 in
     record {
-      covered = record { last = q .covered .last; way = q .covered .way; ends = q .covered .ends; counted = sym (m .0) };
-      fits = omega (arith, m .0, q .covered .counted, simp length-set at (q .room));
-      index = sym (m .1) ∙ f .same;
+      here = r;
+      sized = e;
+      small = f .asked .small;
+      place = omega (arith, f .total, ap length (t .1), f .asked .room, f .size);
+      long = f .counted .long;
+      few = λ b. omega (arith, told f r b, few a (classAt a i) (groupAt a i) (subclassAt a i) (f .before), f .done, f .low, f .asked .small);
     }
 
+pub filling-next : {a : List ℕ} {rows₀ : List (List ℕ)} {l : List ℕ} {rows : List (List ℕ)} {counts : List ℕ} {k i z : ℕ} {rows′ : List (List ℕ)} {counts′ : List ℕ}
+    → Filling a rows₀ l rows counts k i → i < length a → z ≡ sizeAt a i → PutsRow a rows counts k i rows′ counts′ → Filling a rows₀ l rows′ counts′ (k + 1) (i + z)
+filling-next {a} {rows₀} {l} {rows} {counts} {k} {i} f h d p =
+    let t = step (f .ahead) h in
+    let m = t .0 in
+    let r = t .2 in
+    let e = told f r (p .byte) in
+    let s : put k (rowsAfter a (f .before) (i ∷ m)) rows ≡ put 0 (rowsOf a l) rows₀ =
+    ap (λ (x : List ℕ). put k (rowsAfter a (f .before) x) rows) (sym (t .1)) ∙ f .same in
+    rw (d, p .row, p .counter) (record {
+      asked = f .asked;
+      before = i ∷ f .before;
+      rest = m;
+      ahead = t .3;
+      counted = counted-next (f .counted) r (p .byte);
+      done = omega (arith, f .done);
+      low = omega (arith, f .low, r .least);
+      total = omega (arith, f .total, ap length (t .1));
+      size = simp length-set (f .size);
+      same = ap (λ (n : ℕ). put (k + 1) (rowsAfter a (i ∷ f .before) m) (set rows k (row a i n))) e ∙ s;
+    })
+
+pub filling-last : {a : List ℕ} {rows₀ : List (List ℕ)} {l : List ℕ} {rows : List (List ℕ)} {counts : List ℕ} {k i : ℕ}
+    → Filling a rows₀ l rows counts k i → length a ≤ i → (k ≡ length l) × (rows ≡ put 0 (rowsOf a l) rows₀)
+filling-last {a} {rows = rows} {k = k} f h =
+    let e = stop (f .ahead) h in
+    (omega (arith, f .total, ap length e), ap (λ (x : List ℕ). put k (rowsAfter a (f .before) x) rows) (sym e) ∙ f .same)
+
 -- ---- a stretch of records of one size
--- from the record at byte i, with k starts in, to the one at byte e, with c starts in: z is the size of the first
-pub record Alike (a ix₁ : List ℕ) (k i z : ℕ) (ix : List ℕ) (c e : ℕ) : Type 0 where
-  pub kept : (ix₀ : List ℕ) → Filling a ix₀ ix₁ k i → Filling a ix₀ ix c e
+-- from the record at byte i, with k rows in, to the one at byte e, with c rows in: z is the size of the first
+pub record Alike (a : List ℕ) (rows₁ : List (List ℕ)) (counts₁ : List ℕ) (k i z : ℕ) (rows : List (List ℕ)) (counts : List ℕ) (c e : ℕ) : Type 0 where
+  pub kept : (rows₀ : List (List ℕ)) (l : List ℕ) → Filling a rows₀ l rows₁ counts₁ k i → Filling a rows₀ l rows counts c e
   pub from : i ≤ e
   pub begun : e ≡ i → z ≡ sizeAt a i
 
 -- where another size stands the first record is in
-pub moved-on : {a ix₁ ix : List ℕ} {k i z c e : ℕ} → Alike a ix₁ k i z ix c e → (sizeAt a e ≡ z → ⊥) → i < e
+pub moved-on : {a : List ℕ} {rows₁ : List (List ℕ)} {counts₁ : List ℕ} {k i z : ℕ} {rows : List (List ℕ)} {counts : List ℕ} {c e : ℕ}
+    → Alike a rows₁ counts₁ k i z rows counts c e → (sizeAt a e ≡ z → ⊥) → i < e
 moved-on {a} {i = i} {e = e} v n = go (ℕ-discrete e i)
   where
     go : Dec (e ≡ i) → i < e
@@ -106,17 +187,30 @@ pub even-step : {a : List ℕ} {z i j : ℕ} → J.Even a z i j → i < j → (z
 even-step over h = absurd (omega arith)
 even-step (further e m) h = (sym e, m)
 
--- from the record at byte i, with k starts in, to the one at byte e, with c starts in; up to byte `end` the sizes are z
-pub record Evenly (a ix₁ : List ℕ) (k i z end : ℕ) (ix : List ℕ) (c e : ℕ) : Type 0 where
-  pub kept : (ix₀ : List ℕ) → Filling a ix₀ ix₁ k i → Filling a ix₀ ix c e
+-- from the record at byte i, with k rows in, to the one at byte e, with c rows in; up to byte `end` the sizes are z
+pub record Evenly (a : List ℕ) (rows₁ : List (List ℕ)) (counts₁ : List ℕ) (k i z end : ℕ) (rows : List (List ℕ)) (counts : List ℕ) (c e : ℕ) : Type 0 where
+  pub kept : (rows₀ : List (List ℕ)) (l : List ℕ) → Filling a rows₀ l rows₁ counts₁ k i → Filling a rows₀ l rows counts c e
   pub stop : ℕ
   pub even : J.Even a z e stop
   pub within : end ≤ stop
 
--- a refusal that is made is the one that is right
-pub refused-with : (a ix : List ℕ) {n p : ℕ} {r : Finished} → r ≡ refusedWith n p → Refuses a (length ix) n p → FinishedIs a ix r ix
-refused-with a ix e q = rw e (q, refl)
-
 -- the measure falls
 pub less : {n i z : ℕ} → i < n → 1 ≤ z → n - (i + z) < n - i
 less h l = omega arith
+
+-- ---- all of it
+pub filled : {a : List ℕ} {rows rows′ : List (List ℕ)} {c r : ℕ} → Complete a → Covered a c → c ≤ length rows → Fills a rows r rows′ → Accepts a rows r rows′
+filled k v h f =
+    let g = f .filled (0 ∷ starts (v .way)) (fillable k v h) in
+    let e = starts-count (v .way) in
+    record {
+      complete = k;
+      filled = record {
+        covered = record { last = v .last; way = v .way; ends = v .ends; counted = omega (arith, g .0, e) };
+        fits = omega (arith, g .0, e, v .counted);
+        index = g .1;
+      };
+    }
+
+pub refused-with : (a : List ℕ) (rows : List (List ℕ)) {n p : ℕ} {r : Finished} → r ≡ refusedWith n p → Refuses a (length rows) n p → FinishedIs a rows r rows
+refused-with a rows e q = rw e (q, refl)

@@ -1,8 +1,9 @@
-// Products judged: every prefix of an arrival and the finished product, printed as the vectors' expected text is; and the index of the
+// Products judged: every prefix of an arrival and the finished product, printed as the vectors' expected text is; and the rows of the
 // finished judge, for rooms that are too small, just large enough, and larger.
 use crate::answers;
 use calendar::Refusal;
 use cases::input::part;
+use cases::input::word;
 use cases::print;
 use cases::print::say;
 use finish::Finished;
@@ -10,8 +11,8 @@ use finish::judge_finished;
 use judge::arrival::Arrival;
 use judge::arrival::judge_arrival;
 
-// How many places the largest index has, and what they hold before the judge is asked: no product has a record there.
-const PLACES: usize = 64;
+// How many places there are for rows, and what they hold before the judge is asked: no product has a record there.
+const PLACES: usize = 1024;
 
 const UNTOUCHED: u32 = 0xaaaa_aaaa;
 
@@ -53,10 +54,10 @@ fn print_arrivals(bytes: &[u8]) {
     }
 }
 
-// The finished judge, lent the first places of the index; where there are fewer than `room`, a refusal with 0, which no judge gives.
-fn judge_into(bytes: &[u8], index: &mut [u32], room: usize) -> Finished {
-    if room <= index.len() {
-        return judge_finished(bytes, &mut index[..room]);
+// The finished judge, lent the first places; where there are fewer than `room`, a refusal with 0, which no judge gives.
+fn judge_into(bytes: &[u8], rows: &mut [[u32; 7]], room: usize) -> Finished {
+    if room <= rows.len() {
+        return judge_finished(bytes, &mut rows[..room]);
     }
     Finished::Refused(Refusal {
         number: 0,
@@ -69,43 +70,73 @@ pub(crate) fn print_product(number: u64, bytes: &[u8]) {
     print::number(number);
     print::number(bytes.len() as u64);
     say(b"\nfinished");
-    let mut index = [UNTOUCHED; PLACES];
-    answers::finished(judge_into(bytes, &mut index, PLACES));
+    let mut rows = [[UNTOUCHED; 7]; PLACES];
+    answers::finished(judge_into(bytes, &mut rows, PLACES));
     print_arrivals(bytes);
 }
 
-fn wide(start: u32) -> u64 {
-    start as u64
+fn wide(x: u32) -> u64 {
+    x as u64
 }
 
-// The lent places and the one after them, which is not lent.
-fn print_places(index: &[u32; PLACES], room: usize) {
-    say(b"places");
-    for i in 0..PLACES {
-        if i <= room {
-            print::number(wide(index[i]));
+// The row at place i is the one that is due, of 28 bytes each; past these it is untouched.
+fn is_row(row: [u32; 7], due: &[u8], i: usize) -> bool {
+    let mut j: usize = 0;
+    while j < 7 {
+        let x = wide(row[j]);
+        if i < due.len() / 28 {
+            if x != word(due, 28 * i + 4 * j, 4) {
+                return false;
+            }
+        } else if x != wide(UNTOUCHED) {
+            return false;
         }
+        j += 1;
     }
-    say(b"\n");
+    true
 }
 
-fn print_index(number: u64, bytes: &[u8], room: usize) {
-    let mut index = [UNTOUCHED; PLACES];
-    say(b"index");
+// So at each place, those with them that are not lent.
+fn holds(rows: &[[u32; 7]], due: &[u8]) -> bool {
+    let mut i: usize = 0;
+    while i < rows.len() {
+        if !is_row(rows[i], due, i) {
+            return false;
+        }
+        i += 1;
+    }
+    true
+}
+
+// Of n bytes of rows, how many are due: none where a product is refused.
+fn due_of(judged: Finished, n: usize) -> usize {
+    match judged {
+        Finished::Accepted { count: _ } => n,
+        Finished::Refused(_) => 0,
+    }
+}
+
+// The answer for this room, and `lost` where a place does not hold what is due.
+fn print_room(number: u64, bytes: &[u8], due: &[u8], room: usize) {
+    say(b"rows");
     print::number(number);
     print::number(room as u64);
-    answers::finished(judge_into(bytes, &mut index, room));
-    print_places(&index, room);
+    let mut rows = [[UNTOUCHED; 7]; PLACES];
+    let judged = judge_into(bytes, &mut rows, room);
+    answers::finished(judged);
+    if !holds(&rows, part(due, 0, due_of(judged, due.len()))) {
+        say(b"lost\n");
+    }
 }
 
-// The index of as many places as the product has records, with one less and with one more.
-pub(crate) fn print_indexes(number: u64, bytes: &[u8], count: usize) {
-    if count < 1 {
-        return;
+// The rows of a product, lent no room, one place less than it has records, as many, one more and four more; `due` has 28 bytes a row.
+pub(crate) fn print_rows(number: u64, bytes: &[u8], due: &[u8]) {
+    let count = due.len() / 28;
+    print_room(number, bytes, due, 0);
+    if 0 < count {
+        print_room(number, bytes, due, count - 1);
     }
-    if count < PLACES {
-        print_index(number, bytes, count - 1);
-        print_index(number, bytes, count);
-        print_index(number, bytes, count + 1);
-    }
+    print_room(number, bytes, due, count);
+    print_room(number, bytes, due, count + 1);
+    print_room(number, bytes, due, count + 4);
 }

@@ -8,6 +8,7 @@ use mathlib.Core.List.{List, _∷_}
 use borrow.Author.Tests.{ne-eqb}
 use lib.ListN.{length, getD}
 use Rattle.demands.specs.Product.{Meets}
+use Rattle.finish.specs.Rows.{rowsOf}
 use Rattle.finish.specs.Finish.{put, FinishedIs}
 use Rattle.finish.specs.declared.Finished.{Finished}
 use Rattle.finish.specs.declared.Finished.the-variants as F
@@ -57,14 +58,14 @@ module _ {a b : List ℕ} {w : Window} (byte : Bytes a) (c : IsCut a w b) (h : H
   built : Built (c .header) (cutRecords a w (c .product))
   built = cut-is-built w (meets-built a (c .product)) (λ r n. parts-byte a byte (c .product .list) r n) h (c .lines)
 
-  -- "The result is accepted": it meets the format, and so the finished judge accepts it, whatever index has room for its starts
+  -- "The result is accepted": it meets the format, and so the finished judge accepts it, whatever list has room for its rows
   pub town-product : Meets b
   town-product = subst Meets (sym (c .whole)) (built-meets (c .header) (cutRecords a w (c .product)) built)
 
   pub town-accepted :
-      (ix ix′ : List ℕ) (t : Meets b) → suc (length (t .list)) ≤ length ix → (r : Finished) → FinishedIs b ix r ix′
-      → (r ≡ F.Accepted (suc (length (t .list)))) × (ix′ ≡ put 0 (0 ∷ t .list) ix)
-  town-accepted ix ix′ t n r f = meets-accepted b ix ix′ t n r f
+      (rows rows′ : List (List ℕ)) (t : Meets b) → suc (length (t .list)) ≤ length rows → (r : Finished) → FinishedIs b rows r rows′
+      → (r ≡ F.Accepted (suc (length (t .list)))) × (rows′ ≡ put 0 (rowsOf b (0 ∷ t .list)) rows)
+  town-accepted rows rows′ t n r f = meets-accepted b rows rows′ t n r f
 
   -- the main header, and the records after it
   pub town-main : mainOf b ≡ c .header

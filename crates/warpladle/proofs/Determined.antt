@@ -39,8 +39,8 @@ unique-wl-arrival a n m = one-told (J.unique-arrival a)
 pub unique-wl-extent : (a n m : List ℕ) → ExtentTold a n → ExtentTold a m → n ≡ m
 unique-wl-extent a n m = one-told (F.unique-extent a)
 
-pub unique-wl-finished : (a ix x y n m : List ℕ) → FinishedTold a ix x n → FinishedTold a ix y m → (x ≡ y) × (n ≡ m)
-unique-wl-finished a ix x y n m = two-told (λ (z : List ℕ) (r : Finished). FinishedIs a ix r z) x y (λ r s. F.unique-finished a ix r s x y)
+pub unique-wl-finished : (a : List ℕ) (rows x y : List (List ℕ)) (n m : List ℕ) → FinishedTold a rows x n → FinishedTold a rows y m → (x ≡ y) × (n ≡ m)
+unique-wl-finished a rows x y n m = two-told (λ (z : List (List ℕ)) (r : Finished). FinishedIs a rows r z) x y (λ r s. F.unique-finished a rows r s x y)
 
 pub unique-wl-record : (a : List ℕ) (k : ℕ) (n m : List ℕ) → RecordTold a k n → RecordTold a k m → n ≡ m
 unique-wl-record a k n m = one-told (Q.unique-record-at a k)

@@ -42,9 +42,9 @@ abbrev pub finishedSaid : Finished → List ℕ
 finishedSaid (F.Accepted c) = one4 c
 finishedSaid (F.Refused r) = refused 4 r
 
--- the index ix has become ix′
-abbrev pub FinishedTold : List ℕ → List ℕ → List ℕ → List ℕ → Type 0
-FinishedTold a ix ix′ numbers = Told (λ (r : Finished). FinishedIs a ix r ix′) finishedSaid numbers
+-- the lent rows have become rows′
+abbrev pub FinishedTold : List ℕ → List (List ℕ) → List (List ℕ) → List ℕ → Type 0
+FinishedTold a rows rows′ numbers = Told (λ (r : Finished). FinishedIs a rows r rows′) finishedSaid numbers
 
 -- the record's start and header
 abbrev pub recordSaid : RecordAnswer → List ℕ

@@ -62,12 +62,12 @@ fn put_finished(answer: &mut [u64; 4], judged: Finished)
     }
 }
 
-// What is to be said of a finished product: 0, 0, the count, 0; the records' starts go into the index.
+// What is to be said of a finished product: 0, 0, the count, 0; a row for each record goes into the list.
 #[no_mangle]
-pub extern "C" fn wl_finished(bytes: &[u8], index: &mut [u32], answer: &mut [u64; 4])
-    ensures { λ _. ⌜ FinishedTold (now (bytes .entry)) (now (index .entry)) (now (index .exit)) (now (answer .exit)) ⌝ }
+pub extern "C" fn wl_finished(bytes: &[u8], rows: &mut [[u32; 7]], answer: &mut [u64; 4])
+    ensures { λ _. ⌜ FinishedTold (now (bytes .entry)) (now (rows .entry)) (now (rows .exit)) (now (answer .exit)) ⌝ }
 {
-    put_finished(answer, judge_finished(bytes, index));
+    put_finished(answer, judge_finished(bytes, rows));
 }
 
 fn put_record(answer: &mut [u64; 16], found: RecordAnswer)

@@ -1,4 +1,4 @@
-//! Times of the judges on three large products, of the watch and of the cut: medians of runs taken in turn.
+//! Times of the judges on large products, of the watch and of the cut: medians of runs taken in turn. The finished judges fill the same rows.
 use outside::generate::{build, Product, Rng, Shape, GROUPS};
 use outside::leaves::read_header;
 use outside::values::Time;
@@ -100,7 +100,7 @@ fn measure(what: &str, make: impl Fn() -> Product, runs: usize, times: usize) {
     let p = &make();
     let bytes = &p.bytes;
     let count = p.starts.len();
-    let index = &RefCell::new(vec![0u32; count]);
+    let rows = &RefCell::new(vec![[0; 7]; count]);
     let accepted = Finished::Accepted { count: count as u64 };
     let waiting = Arrival::Waiting { count: count as u64, end: bytes.len() as u64 };
     println!("{what}: {} bytes, {count} records, {} pointers", bytes.len(), p.pointers.len());
@@ -108,15 +108,15 @@ fn measure(what: &str, make: impl Fn() -> Product, runs: usize, times: usize) {
         runs,
         times,
         vec![
-            ("finished fast", Box::new(|| assert_eq!(fast::finished(black_box(bytes), &mut index.borrow_mut()), accepted))),
+            ("finished fast", Box::new(|| assert_eq!(fast::finished(black_box(bytes), &mut rows.borrow_mut()), accepted))),
             ("arrival fast", Box::new(|| assert_eq!(fast::arrival(black_box(bytes)), waiting))),
             #[cfg(feature = "boundary")]
-            ("finished boundary", Box::new(|| assert_eq!(boundary::finished(black_box(bytes), &mut index.borrow_mut()), accepted))),
+            ("finished boundary", Box::new(|| assert_eq!(boundary::finished(black_box(bytes), &mut rows.borrow_mut()), accepted))),
             #[cfg(feature = "boundary")]
             ("arrival boundary", Box::new(|| assert_eq!(boundary::arrival(black_box(bytes)), waiting))),
         ],
     );
-    assert!(index.borrow().iter().zip(&p.starts).all(|(a, b)| *a as usize == *b));
+    assert!(rows.borrow().iter().zip(&p.starts).all(|(a, b)| a[0] as usize == *b));
     ratio(&all, "finished boundary", "finished fast");
     ratio(&all, "arrival boundary", "arrival fast");
 }
@@ -155,9 +155,9 @@ fn measure_watch(p: &Product, length: usize, runs: usize, times: usize) {
     ratio(&all, "watch boundary", "arrival boundary");
 }
 
-/// So many records of as many kinds, or of one kind.
+/// So many records of 20,480 kinds, or of one kind.
 fn kinds(records: usize, size: usize, many: bool) -> Product {
-    let class = |k: usize| if many { 4 + (k / 4096) as u8 } else { 8 };
+    let class = |k: usize| if many { 4 + (k * 5 / records) as u8 } else { 8 };
     let others = (0..records).map(|k| (class(k), size)).collect();
     let mut p = build(&mut Rng(13), &Shape { first_version: 2, sphr: None, pointers: 0, others, sorted: true, rest: 0 });
     for (k, s) in p.starts[1..].iter().enumerate() {
@@ -273,6 +273,8 @@ fn main() {
     // Not asked for: sizes that cannot be guessed, and a product that is hardly more than its main header.
     measure("uneven", || even(64, true), runs, 1);
     measure("small", || large(11, 1, 21, 0, true), runs, 1000);
+    measure("one kind", || kinds(100_000, 335, false), runs, 1);
+    measure("20,480 kinds", || kinds(100_000, 335, true), runs, 1);
     // Not asked for, but the other path: targets that descend. The boundary may take long here, so it is left out unless SCATTERED is set.
     if !cfg!(feature = "boundary") || std::env::var_os("SCATTERED").is_some() {
         measure("scattered", || large(10, 20_000, 335, 20_000, false), runs, 1);

@@ -5,7 +5,7 @@
 extern "C" {
     fn wl_arrival(bytes: *const u8, len: usize, answer: &mut [u64; 4]);
     fn wl_extent(bytes: *const u8, len: usize, answer: &mut [u64; 4]);
-    fn wl_finished(bytes: *const u8, len: usize, index: *mut u32, room: usize, answer: &mut [u64; 4]);
+    fn wl_finished(bytes: *const u8, len: usize, rows: *mut [u32; 7], room: usize, answer: &mut [u64; 4]);
 
     fn wl_watch_new(watch: &mut Watch);
     fn wl_watch_feed(watch: &mut Watch, part: *const u8, len: usize, answer: &mut [u64; 4]);
@@ -146,9 +146,9 @@ pub fn extent(bytes: &[u8]) -> [u64; 4] {
     answered(|answer| unsafe { wl_extent(bytes.as_ptr(), bytes.len(), answer) })
 }
 
-pub fn finished(bytes: &[u8], index: &mut [u32]) -> [u64; 4] {
+pub fn finished(bytes: &[u8], rows: &mut [[u32; 7]]) -> [u64; 4] {
     // SAFETY: as above.
-    answered(|answer| unsafe { wl_finished(bytes.as_ptr(), bytes.len(), index.as_mut_ptr(), index.len(), answer) })
+    answered(|answer| unsafe { wl_finished(bytes.as_ptr(), bytes.len(), rows.as_mut_ptr(), rows.len(), answer) })
 }
 
 pub fn watch_new() -> Watch {

@@ -13,7 +13,7 @@ pub fn extent(bytes: &[u8]) -> Result<Option<u64>, Refusal> {
     if let Arrival::Refused { number, place } = plain::arrival(bytes) {
         return Err(Refusal { number, place });
     }
-    match plain::finished(bytes, &mut vec![0; bytes.len() / 20 + 1]) {
+    match plain::finished(bytes, &mut vec![[0; 7]; bytes.len() / 20 + 1]) {
         Finished::Accepted { count } => Ok(Some(count)),
         Finished::Refused { number: 17, .. } => Ok(None),
         other => panic!("an arrival that waits is finished as {other:?}"),
@@ -105,12 +105,12 @@ pub fn listing(bytes: &[u8], text: &mut [u8]) -> Result<usize, Refusal> {
     if bytes.len() > 65_536 {
         return refused(23, 65_536);
     }
-    let mut index = vec![0; bytes.len() / 20 + 1];
-    match plain::finished(bytes, &mut index) {
+    let mut rows = vec![[0; 7]; bytes.len() / 20 + 1];
+    match plain::finished(bytes, &mut rows) {
         Finished::Refused { number, place } => Err(Refusal { number, place }),
         Finished::Accepted { count } => {
             let mut lines = format!("records {count}\n");
-            for start in &index[..count as usize] {
+            for [start, ..] in &rows[..count as usize] {
                 let h = read_header(bytes, *start as usize)?;
                 lines += &format!("{start} {} {} {} {} {}\n", h.class, h.group, h.subclass, h.version, h.size);
             }

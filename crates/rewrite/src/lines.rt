@@ -1,10 +1,13 @@
 // The main header of a new product: the old one, with lines set anew. Where a line stands is said by `mphr`, its value written by `text`
 // and `meter`.
 use crate::copy::copy;
+use crate::copy::is_same;
 use meter::time::Time;
 use mphr::layout::FieldPlace;
 use mphr::layout::field_place;
+use text::Kind;
 use text::Number;
+use text::count_at;
 ghost use mathlib.Core.Path.{_≡_};
 ghost use mathlib.Core.Bool.{true};
 ghost use Prim.Native.Nat.{_+_, _≤_, _<_};
@@ -12,10 +15,14 @@ ghost use lib.ListN.{length, getD};
 ghost use lib.Seq.{sets};
 ghost use Rattle.meter.specs.Time.{isTime};
 ghost use Rattle.mphr.specs.Layout.{widthOf, lineStart};
-ghost use Rattle.parts.specs.Rewritten.{valueOf};
+ghost use Rattle.parts.specs.JoinHeader.{added, SumsFit};
+ghost use Rattle.parts.specs.Pass.{FourAgree};
+ghost use Rattle.parts.specs.Rewritten.{valueOf, number, fitsLine};
 ghost use Rattle.parts.specs.CutHeader.{toSecond, stamp};
 ghost use Rattle.rewrite.specs.Lining.{Adds, NumberFor, numberLine, wholeNumber, Totals, unknownLines, totalLines};
 ghost use Rattle.rewrite.specs.Lining.{timed, timeLines, HeaderFor, HeaderIs};
+ghost use Rattle.rewrite.specs.Comparing.{Decides, SameIs};
+ghost use Rattle.rewrite.specs.Joining.{Headers, sumLines, endLines, JoinHeaderFor, JoinHeaderIs};
 
 // The value of line k.
 fn set_value(header: &mut [u8], k: usize, value: &[u8])

@@ -9,7 +9,7 @@ use lib.Seq.{ext-getD, getD-take, getD-drop}
 use Rattle.rewrite.specs.Comparing.{Decides, SameIs}
 use Rattle.rewrite.proofs.CopyLaws.{part-long}
 
-part-at : (a : List ℕ) (from n i : ℕ) → i < n → getD (take n (drop from a)) i 0 ≡ getD a (from + i) 0
+pub part-at : (a : List ℕ) (from n i : ℕ) → i < n → getD (take n (drop from a)) i 0 ≡ getD a (from + i) 0
 part-at a from n i h = getD-take n (drop from a) i 0 h ∙ getD-drop from a i 0
 
 -- ---- an answer

@@ -11,3 +11,4 @@ pub mod CompareLaws
 pub mod SectionLaws
 pub mod GatherLaws
 pub mod AssembleLaws
+pub mod SumLaws

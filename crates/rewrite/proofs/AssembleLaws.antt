@@ -35,15 +35,15 @@ pub joined-append : (xs ys : List (List ℕ)) → joined (xs ++ ys) ≡ joined x
 joined-append [] ys = refl
 joined-append (x ∷ xs) ys = ap (λ (l : List ℕ). x ++ l) (joined-append xs ys) ∙ sym (append-assoc x (joined xs) (joined ys))
 
-count-append : (c : ℕ) (xs ys : List (List ℕ)) → count c (xs ++ ys) ≡ count c xs + count c ys
+pub count-append : (c : ℕ) (xs ys : List (List ℕ)) → count c (xs ++ ys) ≡ count c xs + count c ys
 count-append c [] ys = omega arith
 count-append c (x ∷ xs) ys = omega (arith, count-append c xs ys)
 
-count-none : (c : ℕ) (xs : List (List ℕ)) → ((r : List ℕ) → In r xs → class r 0 ≡ c → ⊥) → count c xs ≡ 0
+pub count-none : (c : ℕ) (xs : List (List ℕ)) → ((r : List ℕ) → In r xs → class r 0 ≡ c → ⊥) → count c xs ≡ 0
 count-none c [] f = refl
 count-none c (x ∷ xs) f = rw (ne-eqb (class x 0) c (f x (top refl))) (omega (arith, count-none c xs (λ r n. f r (pop n))))
 
-count-all : (c : ℕ) (xs : List (List ℕ)) → ((r : List ℕ) → In r xs → class r 0 ≡ c) → count c xs ≡ length xs
+pub count-all : (c : ℕ) (xs : List (List ℕ)) → ((r : List ℕ) → In r xs → class r 0 ≡ c) → count c xs ≡ length xs
 count-all c [] f = refl
 count-all c (x ∷ xs) f = rw (eq-eqb (class x 0) c (f x (top refl))) (omega (arith, count-all c xs (λ r n. f r (pop n))))
 

@@ -12,3 +12,5 @@ pub mod SectionLaws
 pub mod GatherLaws
 pub mod AssembleLaws
 pub mod SumLaws
+pub mod StretchLaws
+pub mod JoinPlanLaws

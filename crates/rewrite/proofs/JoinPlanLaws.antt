@@ -6,7 +6,7 @@ use native.Mathlib.Omega.{arith}
 use mathlib.Core.Path.{_≡_, refl, sym, ap, subst, _∙_}
 use mathlib.Core.Bool.{Bool, true, false, cond}
 use mathlib.Core.Logic.{⊎-elim}
-use mathlib.Core.List.{List, [], _∷_, _++_, append-assoc, append-nil, List·Memᴰ as In, List·Memᴰ·head as top, List·Memᴰ·append-cases as in-append}
+use mathlib.Core.List.{List, [], _∷_, _++_, append-assoc, append-nil, List·Memᴰ as In, List·Memᴰ·head as top, List·Memᴰ·tail as pop, List·Memᴰ·append-cases as in-append}
 use borrow.Author.Tests.{eq-eqb, ne-eqb}
 use lib.Dec.{eqb}
 use lib.ListN.{length, getD, set, take, drop, replicate, length-append, length-set}
@@ -218,6 +218,116 @@ module _ {a b : List ℕ} {x y : Sections} (s : Sections2 a b x y) (bytes-a : By
           ∙ g .each j h
           ∙ omega (arith, count-none j (only isSphr (rsOf a b (s .two))) (λ r n o. z (sym o ∙ front-two r n)))
 
+-- the four calls, each after what was gathered before it
+module _ {a b : List ℕ} {x y : Sections} {table tally : List ℕ} (g : Gathering2 a b x y table tally) (i j k l : ℕ)
+    (ei : i ≡ 3307 + x .sphr + x .ipr) (ej : j ≡ i + x .global + x .variable) (ek : k ≡ 3307 + y .sphr + y .ipr + y .global) (el : l ≡ k + y .variable) where
+  first-part : Stretch a i j (only isGlobal (rsOf a b (g .found .two)) ++ only isVariable (rsOf a b (g .found .two)))
+  first-part = aux-stretch (g .found .two .first) (g .found .first) i j ei ej
+
+  second-part : Stretch b k l (only isVariable (ssOf a b (g .found .two)))
+  second-part = variable-stretch (g .found .two .second) (g .found .second) k l ek el
+
+  third-part : Stretch a j (length a) (only isMdr (rsOf a b (g .found .two)))
+  third-part = mdr-stretch (g .found .two .first) (g .found .first) j (length a) (ej ∙ ap (λ (n : ℕ). n + x .global + x .variable) ei) refl
+
+  fourth-part : Stretch b l (length b) (only isMdr (ssOf a b (g .found .two)))
+  fourth-part = mdr-stretch (g .found .two .second) (g .found .second) l (length b) (el ∙ ap (λ (n : ℕ). n + y .variable) ek) refl
+
+  aux-bytes : bytes (only isGlobal (rsOf a b (g .found .two)) ++ only isVariable (rsOf a b (g .found .two))) ≡ j - i
+  aux-bytes = omega (arith, first-part .end)
+
+  most : (j - i) + (l - k) + (length a - j) + (length b - l) ≤ 2147483647
+  most =
+      let u : j - i ≡ x .global + x .variable = omega arith in
+      let v : l - k ≡ y .variable = omega arith in
+      let w : length a - j ≡ bytes (only isMdr (rsOf a b (g .found .two))) = omega (arith, third-part .end) in
+      let z : length b - l ≡ bytes (only isMdr (ssOf a b (g .found .two))) = omega (arith, fourth-part .end) in
+      rw (u, v, w, z) (omega (arith, g .small, together-bytes (g .found)))
+
+  pub gather-1 : Gatherable a i j 0 table tally
+  gather-1 = record {
+    before = [];
+    gathered = gathered-none (g .long) (g .empty) (g .nine) (g .none);
+    low = λ c h. omega (arith, g .none c);
+    records = only isGlobal (rsOf a b (g .found .two)) ++ only isVariable (rsOf a b (g .found .two));
+    stretch = first-part;
+    small = omega (arith, aux-bytes, most);
+  }
+
+  module _ {r₁ : ℕ} {T₁ t₁ : List ℕ} (g₁ : Gathers a i j 0 table tally r₁ T₁ t₁) where
+    got-1 : (n : ℕ) → n ≡ j - i → Gathered (only isGlobal (rsOf a b (g .found .two)) ++ only isVariable (rsOf a b (g .found .two))) T₁ t₁ n
+    got-1 n e = gathered-at (omega (arith, aux-bytes)) (g₁ .all [] _ (gathered-none (g .long) (g .empty) (g .nine) (g .none)) first-part)
+
+    pub gather-2 : (n : ℕ) → n ≡ j - i → Gatherable b k l n T₁ t₁
+    gather-2 n e = record {
+      before = only isGlobal (rsOf a b (g .found .two)) ++ only isVariable (rsOf a b (g .found .two));
+      gathered = got-1 n e;
+      low = λ c h. omega (arith, aux-bytes, g₁ .low c _ first-part h);
+      records = only isVariable (ssOf a b (g .found .two));
+      stretch = second-part;
+      small = omega (arith, second-part .end, most);
+    }
+
+    module _ {r₂ : ℕ} {T₂ t₂ : List ℕ} (n₂ : ℕ) (e₂ : n₂ ≡ j - i) (g₂ : Gathers b k l n₂ T₁ t₁ r₂ T₂ t₂) where
+      got-2 : (n : ℕ) → n ≡ (j - i) + (l - k) → Gathered ((only isGlobal (rsOf a b (g .found .two)) ++ only isVariable (rsOf a b (g .found .two))) ++ only isVariable (ssOf a b (g .found .two))) T₂ t₂ n
+      got-2 n e = gathered-at (omega (arith, second-part .end)) (g₂ .all _ _ (got-1 n₂ e₂) second-part)
+
+      pub gather-3 : (n : ℕ) → n ≡ (j - i) + (l - k) → Gatherable a j (length a) n T₂ t₂
+      gather-3 n e = record {
+        before = (only isGlobal (rsOf a b (g .found .two)) ++ only isVariable (rsOf a b (g .found .two))) ++ only isVariable (ssOf a b (g .found .two));
+        gathered = got-2 n e;
+        low = λ c h. omega (arith, second-part .end, g₂ .low c _ second-part h);
+        records = only isMdr (rsOf a b (g .found .two));
+        stretch = third-part;
+        small = omega (arith, third-part .end, most);
+      }
+
+      module _ {r₃ : ℕ} {T₃ t₃ : List ℕ} (n₃ : ℕ) (e₃ : n₃ ≡ (j - i) + (l - k)) (g₃ : Gathers a j (length a) n₃ T₂ t₂ r₃ T₃ t₃) where
+        got-3 : (n : ℕ) → n ≡ n₃ + (length a - j) → Gathered (((only isGlobal (rsOf a b (g .found .two)) ++ only isVariable (rsOf a b (g .found .two))) ++ only isVariable (ssOf a b (g .found .two))) ++ only isMdr (rsOf a b (g .found .two))) T₃ t₃ n
+        got-3 n e = gathered-at (omega (arith, third-part .end)) (g₃ .all _ _ (got-2 n₃ e₃) third-part)
+
+        pub gather-4 : (n : ℕ) → n ≡ n₃ + (length a - j) → Gatherable b l (length b) n T₃ t₃
+        gather-4 n e = record {
+          before = ((only isGlobal (rsOf a b (g .found .two)) ++ only isVariable (rsOf a b (g .found .two))) ++ only isVariable (ssOf a b (g .found .two))) ++ only isMdr (rsOf a b (g .found .two));
+          gathered = got-3 n e;
+          low = λ c h. omega (arith, third-part .end, g₃ .low c _ third-part h);
+          records = only isMdr (ssOf a b (g .found .two));
+          stretch = fourth-part;
+          small = omega (arith, fourth-part .end, most);
+        }
+
+        module _ {r₄ : ℕ} {T₄ t₄ : List ℕ} (n₄ : ℕ) (e₄ : n₄ ≡ n₃ + (length a - j)) (g₄ : Gathers b l (length b) n₄ T₃ t₃ r₄ T₄ t₄) where
+          got-4 : Gathered (together (rsOf a b (g .found .two)) (ssOf a b (g .found .two))) T₄ t₄ (n₄ + bytes (only isMdr (ssOf a b (g .found .two))))
+          got-4 =
+              subst (λ (ks : List (List ℕ)). Gathered ks T₄ t₄ (n₄ + bytes (only isMdr (ssOf a b (g .found .two)))))
+              (in-one (only isGlobal (rsOf a b (g .found .two))) (only isVariable (rsOf a b (g .found .two))) (only isVariable (ssOf a b (g .found .two))) (only isMdr (rsOf a b (g .found .two))) (only isMdr (ssOf a b (g .found .two))))
+              (g₄ .all _ _ (got-3 n₄ e₄) fourth-part)
+            where
+              in-one : (p q u v w : List (List ℕ)) → (((p ++ q) ++ u) ++ v) ++ w ≡ p ++ (q ++ (u ++ (v ++ w)))
+              in-one p q u v w = simp append-assoc
+
+          -- no count is over the bytes
+          pub few : (r₁ ≤ 2147483647) × (r₂ ≤ 2147483647) × (r₃ ≤ 2147483647) × (r₄ ≤ 2147483647)
+          few = (
+            omega (arith, g₁ .many _ first-part, counted (only isGlobal (rsOf a b (g .found .two)) ++ only isVariable (rsOf a b (g .found .two))) (first-part .rest) (first-part .walk .own), aux-bytes, most),
+            omega (arith, g₂ .many _ second-part, counted (only isVariable (ssOf a b (g .found .two))) (second-part .rest) (second-part .walk .own), second-part .end, most),
+            omega (arith, g₃ .many _ third-part, counted (only isMdr (rsOf a b (g .found .two))) (third-part .rest) (third-part .walk .own), third-part .end, most),
+            omega (arith, g₄ .many _ fourth-part, counted (only isMdr (ssOf a b (g .found .two))) (fourth-part .rest) (fourth-part .walk .own), fourth-part .end, most),
+          )
+            where
+              counted : (xs ys : List (List ℕ)) → ((r : List ℕ) → In r (xs ++ ys) → Own r) → length xs ≤ bytes xs
+              counted [] ys f = omega arith
+              counted (r ∷ xs) ys f = omega (arith, f r (top refl) .least, counted xs ys (λ q n. f q (pop n)))
+
+          pub all-gathered : Bytes a → Bytes b → {tally′ : List ℕ} (front records : ℕ) → front ≡ cond (eqb (x .sphr) 0) 0 1 → tally′ ≡ set t₄ 2 front → records ≡ front + r₁ + r₂ + r₃ + r₄ → Gathers2 a b x records T₄ tally′
+          all-gathered u v front records e d w = collected (g .found) u v got-4 e d (g₁ .many _ first-part) (g₂ .many _ second-part) (g₃ .many _ third-part) (g₄ .many _ fourth-part) w
+
+          pub long-4 : length T₄ ≡ 20480
+          long-4 = got-4 .holds .long
+
+          pub nine-4 : length t₄ ≡ 9
+          nine-4 = got-4 .nine
+
 -- ---- WHAT IS PUT
 module _ {a b : List ℕ} {x y : Sections} {table totals : List ℕ} {at size : ℕ} {room : List ℕ} (p : JoinPlanned a b x y table totals at size room) where
   pub planned-header : (h : List ℕ) → length h ≡ 3307 → JoinHeaderFor (mainOf a) (mainOf b) totals size h
@@ -244,3 +354,150 @@ module _ {a b : List ℕ} {x y : Sections} {table totals : List ℕ} {at size : 
       let u : length a - (3307 + x .sphr + x .ipr + x .global + x .variable) ≡ bytes (only isMdr (rsOf a b (p .matched .found .two))) = omega (arith, sections-come (p .matched .found .two .first) (p .matched .found .first)) in
       let v : length b - (3307 + y .sphr + y .ipr + y .global + y .variable) ≡ bytes (only isMdr (ssOf a b (p .matched .found .two))) = omega (arith, sections-come (p .matched .found .two .second) (p .matched .found .second)) in
       rw (u, v) (omega (arith, together-bytes (p .matched .found), p .planned .size-is, p .planned .base-is, assembled-bytes (mainOf a) (only isSphr (rsOf a b (p .matched .found .two))) (together (rsOf a b (p .matched .found .two)) (ssOf a b (p .matched .found .two)))))
+
+four-texts :
+    (x A B C E y₁ y₂ y₃ y₄ : List ℕ) (i j k l : ℕ) → j ≡ i + length A → k ≡ j + length B → l ≡ k + length C → y₁ ≡ sets x i A → y₂ ≡ sets y₁ j B → y₃ ≡ sets y₂ k C → y₄ ≡ sets y₃ l E
+    → y₄ ≡ sets x i (A ++ (B ++ (C ++ E)))
+four-texts x A B C E y₁ y₂ y₃ y₄ i j k l ej ek el e₁ e₂ e₃ e₄ =
+    let a = sets-append x i A (B ++ (C ++ E)) ∙ ap (λ (n : ℕ). sets (sets x i A) n (B ++ (C ++ E))) (sym ej) ∙ ap (λ (z : List ℕ). sets z j (B ++ (C ++ E))) (sym e₁) in
+    let b = sets-append y₁ j B (C ++ E) ∙ ap (λ (n : ℕ). sets (sets y₁ j B) n (C ++ E)) (sym ek) ∙ ap (λ (z : List ℕ). sets z k (C ++ E)) (sym e₂) in
+    let c = sets-append y₂ k C E ∙ ap (λ (n : ℕ). sets (sets y₂ k C) n E) (sym el) ∙ ap (λ (z : List ℕ). sets z l E) (sym e₃) in
+    e₄ ∙ sym (a ∙ b ∙ c)
+
+-- the lines that are set are those of the join
+lines-same :
+    (m n totals : List ℕ) (size : ℕ) (ps : List (List ℕ)) → TotalsOf ps totals → size ≡ 3307 + bytes ps → joinLinesBy m n totals size ≡ countLines ps (joinLines m n)
+lines-same m n totals size ps t e =
+    let each = t .each in
+    rw (
+      e,
+      t .all,
+      t .main,
+      each 2 (omega arith) (omega arith),
+      each 3 (omega arith) (omega arith),
+      each 4 (omega arith) (omega arith),
+      each 5 (omega arith) (omega arith),
+      each 6 (omega arith) (omega arith),
+      each 7 (omega arith) (omega arith),
+      each 8 (omega arith) (omega arith),
+    ) refl
+
+pub record Texts (a b : List ℕ) (x y : Sections) (at : ℕ) (header room x₁ x₂ : List ℕ) (pointers : List ℕ) (to : ℕ) (x₃ y₁ y₂ y₃ y₄ : List ℕ) : Type 0 where
+  pub head : x₁ ≡ sets room 0 (take 3307 (drop 0 header))
+  pub front : x₂ ≡ sets x₁ 3307 (take (x .sphr) (drop 3307 a))
+  pub point : PutsText pointers x₂ (3307 + x .sphr) to x₃
+  pub aux : y₁ ≡ sets x₃ at (take (x .global + x .variable) (drop (3307 + x .sphr + x .ipr) a))
+  pub more : y₂ ≡ sets y₁ (at + (x .global + x .variable)) (take (y .variable) (drop (3307 + y .sphr + y .ipr + y .global) b))
+  pub mdrs : y₃ ≡ sets y₂ (at + (x .global + x .variable) + y .variable) (take (length a - (3307 + x .sphr + x .ipr + x .global + x .variable)) (drop (3307 + x .sphr + x .ipr + x .global + x .variable) a))
+  pub others :
+      y₄ ≡ sets y₃ (at + (x .global + x .variable) + y .variable + (length a - (3307 + x .sphr + x .ipr + x .global + x .variable))) (take (length b - (3307 + y .sphr + y .ipr + y .global + y .variable)) (drop (3307 + y .sphr + y .ipr + y .global + y .variable) b))
+
+module _ {a b : List ℕ} {x y : Sections} {table totals : List ℕ} {at size : ℕ} {room : List ℕ} (p : JoinPlanned a b x y table totals at size room) where
+  pub puts-join :
+      {header x₁ x₂ x₃ y₁ y₂ y₃ y₄ : List ℕ} {to : ℕ} → JoinHeaderIs (mainOf a) (mainOf b) totals size header
+      → Texts a b x y at header room x₁ x₂ (pointersFrom a at table 0) to x₃ y₁ y₂ y₃ y₄ → PutsJoin a b room y₄
+  puts-join {header} {x₁} {x₂} {x₃} {y₁} {y₂} {y₃} {y₄} {to} lines q =
+      let s = p .matched .found in
+      let t = s .two in
+      let rs = rsOf a b t in
+      let ss = ssOf a b t in
+      let m = mainOf a in
+      let f = only isSphr rs in
+      let ks = together rs ss in
+      let o = pointers m at (firsts 0 ks) in
+      let g = only isGlobal rs ++ only isVariable rs in
+      let v = only isVariable ss in
+      let d = only isMdr rs in
+      let e = only isMdr ss in
+      let i = 3307 + x .sphr + x .ipr in
+      let j = 3307 + y .sphr + y .ipr + y .global in
+      let ga = aux-stretch (t .first) (s .first) i (i + x .global + x .variable) refl refl in
+      let va = variable-stretch (t .second) (s .second) j (j + y .variable) refl refl in
+      let da = mdr-stretch (t .first) (s .first) (i + x .global + x .variable) (length a) refl refl in
+      let ea = mdr-stretch (t .second) (s .second) (j + y .variable) (length b) refl refl in
+      let tg = stretch-text g (x .global + x .variable) ga (omega arith) in
+      let tv = stretch-text v (y .variable) va (omega arith) in
+      let td = stretch-text d (length a - (i + x .global + x .variable)) da refl in
+      let te = stretch-text e (length b - (j + y .variable)) ea refl in
+      let lg : length (joined g) ≡ x .global + x .variable = bytes-joined g ∙ omega (arith, ga .end) in
+      let lv : length (joined v) ≡ y .variable = bytes-joined v ∙ omega (arith, va .end) in
+      let ld : length (joined d) ≡ length a - (i + x .global + x .variable) = bytes-joined d ∙ omega (arith, da .end) in
+      let h₁ : x₁ ≡ sets room 0 header = q .head ∙ ap (sets room 0) (ap (take 3307) (drop-none header) ∙ take-all 3307 header (omega (arith, lines .long))) in
+      let lf : length (joined f) ≡ x .sphr = bytes-joined f ∙ sym (s .first .sphr) in
+      let h₂ : x₂ ≡ sets x₁ 3307 (joined f) = q .front ∙ ap (sets x₁ 3307) (sphr-text (t .first) (s .first)) in
+      let ot = pointers-text a (p .holds) (p .kinded) at in
+      let n₃ : 3307 + x .sphr ≡ 3307 + length (joined f) = omega (arith, lf) in
+      let h₃ : x₃ ≡ sets x₂ (3307 + length (joined f)) (joined o) = q .point .put ∙ ap (sets x₂ (3307 + x .sphr)) ot ∙ ap (λ (n : ℕ). sets x₂ n (joined o)) n₃ in
+      let n₄ : at ≡ 3307 + length (joined f) + length (joined o) = omega (arith, planned-pointers p, lf, ap length ot) in
+      let four = four-texts x₃ (joined g) (joined v) (joined d) (joined e) y₁ y₂ y₃ y₄ at (at + (x .global + x .variable)) (at + (x .global + x .variable) + y .variable) (at + (x .global + x .variable) + y .variable + (length a - (i + x .global + x .variable))) (omega (arith, lg)) (omega (arith, lv)) (omega (arith, ld))
+      (q .aux ∙ ap (sets x₃ at) tg) (q .more ∙ ap (sets y₁ (at + (x .global + x .variable))) tv) (q .mdrs ∙ ap (sets y₂ (at + (x .global + x .variable) + y .variable)) td) (q .others ∙ ap (sets y₃ (at + (x .global + x .variable) + y .variable + (length a - (i + x .global + x .variable)))) te) in
+      let kt : joined ks ≡ joined g ++ (joined v ++ (joined d ++ joined e)) =
+      ap joined (sym (append-assoc (only isGlobal rs) (only isVariable rs) (v ++ (d ++ e))))
+      ∙ joined-append g (v ++ (d ++ e))
+      ∙ ap (λ (l : List ℕ). joined g ++ l) (joined-append v (d ++ e) ∙ ap (λ (l : List ℕ). joined v ++ l) (joined-append d e)) in
+      let h₄ : y₄ ≡ sets x₃ (3307 + length (joined f) + length (joined o)) (joined ks) = four ∙ ap (sets x₃ at) (sym kt) ∙ ap (λ (n : ℕ). sets x₃ n (joined ks)) n₄ in
+      record {
+        two = t;
+        header = header;
+        lines = subst (λ (l : List Anew). Rewritten m header (valuesOf l)) (lines-same m (mainOf b) totals size (joinParts m rs ss) (p .planned .totals-of) (p .planned .size-is)) lines;
+        put = put-together room header (joined f) (joined o) (joined ks) x₁ x₂ x₃ y₄ (lines .long) h₁ h₂ h₃ h₄ ∙ ap (λ (l : List ℕ). sets room 0 (header ++ l)) (sym (assembled-text m f ks at (p .planned .base-is)));
+      }
+    where
+      drop-none : (v : List ℕ) → drop 0 v ≡ v
+      drop-none [] = refl
+      drop-none (z ∷ v) = refl
+
+-- ---- THE ANSWERS
+module _ {a b room : List ℕ} where
+  pub says-unlike : {r : Bool} (t : Two a b) → AlikeIs a b r → r ≡ false → JoinIs a b room (refusedAt 26 0) room
+  says-unlike t d e = both (t .first) (t .second) (unlike (d t .wrong e))
+
+  pub says-late : {r : Bool} (t : Two a b) → AlikeIs a b r → r ≡ true → (InTime (rsOf a b t) (ssOf a b t) → ⊥) → JoinIs a b room (refusedAt 27 0) room
+  says-late t d e h = both (t .first) (t .second) (out-of-time (d t .right e) h)
+
+  pub says-sums :
+      {r q : Bool} (t : Two a b) → AlikeIs a b r → r ≡ true → InTime (rsOf a b t) (ssOf a b t) → Decides (SumsFit (mainOf a) (mainOf b)) q → q ≡ false
+      → JoinIs a b room (refusedAt 28 0) room
+  says-sums t d e h s c = both (t .first) (t .second) (too-much (d t .right e) h (λ j. s .wrong c (j .sums)))
+
+  module _ {x y : Sections} (m : Matched a b x y) where
+    pub says-big : (n : ℕ) → n ≡ bytes (together (rsOf a b (m .found .two)) (ssOf a b (m .found .two))) → 2147483647 < n → JoinIs a b room (refusedAt 28 0) room
+    says-big n e h =
+        let t = m .found .two in
+        both (t .first) (t .second) (too-much (m .alike) (m .in-time) (λ j. omega (arith, j .holdable .size, assembled-bytes (mainOf a) (only isSphr (rsOf a b t)) (together (rsOf a b t) (ssOf a b t)))))
+
+    pub says-unplanned :
+        (n p : ℕ) → Unplanned (mainOf a) (only isSphr (rsOf a b (m .found .two))) (together (rsOf a b (m .found .two)) (ssOf a b (m .found .two))) (length room) n p
+        → JoinIs a b room (refusedAt n p) room
+    says-unplanned n p (big h) = let t = m .found .two in both (t .first) (t .second) (too-much (m .alike) (m .in-time) (λ j. h (j .holdable)))
+    says-unplanned n p (long h l) = let t = m .found .two in both (t .first) (t .second) (no-room (m .alike) (m .in-time) record { holdable = h; sums = m .sums } l)
+
+    pub says-written :
+        {at size : ℕ} {totals exit : List ℕ} → Planned (mainOf a) (only isSphr (rsOf a b (m .found .two))) (together (rsOf a b (m .found .two)) (ssOf a b (m .found .two))) (length room) at size totals
+        → PutsJoin a b room exit → JoinIs a b room (W.Bytes size) exit
+    says-written {at} {size} {totals} {exit} p q =
+        let t = q .two in
+        let k = m .found .two in
+        let rs = rsOf a b k in
+        let ss = ssOf a b k in
+        let n = joinSize (mainOf a) rs ss in
+        let c = bytesOf (q .header) (joinParts (mainOf a) rs ss) in
+        let l : length c ≡ n = length-append (q .header) (joined (joinParts (mainOf a) rs ss)) ∙ omega (arith, q .lines .long, bytes-joined (joinParts (mainOf a) rs ss)) in
+        let z : 0 + length c ≡ n = omega (arith, l) in
+        let put : exit ≡ sets room 0 c = q .put ∙ ap (λ (u : List (List ℕ)). sets room 0 (bytesOf (q .header) (joinParts (mainOf a) u (ssOf a b t)))) (first-same t k) ∙ ap (λ (u : List (List ℕ)). sets room 0 (bytesOf (q .header) (joinParts (mainOf a) rs u))) (second-same t k) in
+        let e : exit ≡ c ++ drop n room =
+        put
+        ∙ sets-eq c room 0 (omega (arith, l, p .fits, p .size-is))
+        ∙ ap (λ (u : List ℕ). u ++ c ++ drop (0 + length c) room) (take-zero room)
+        ∙ ap (λ (i : ℕ). c ++ drop i room) z in
+        let lines = subst (λ (u : List (List ℕ)). Rewritten (mainOf a) (q .header) (joinValues (mainOf a) (mainOf b) rs u)) (second-same t k) (subst (λ (u : List (List ℕ)). Rewritten (mainOf a) (q .header) (joinValues (mainOf a) (mainOf b) u (ssOf a b t))) (first-same t k) (q .lines)) in
+        let w : PartsJoin (mainOf a) (mainOf b) rs ss room (W.Bytes n) (c ++ drop n room) = written c (m .alike) (m .in-time) record { holdable = p .holdable; sums = m .sums } (omega (arith, p .fits, p .size-is)) record { header = q .header; lines = lines; whole = refl } in
+        both (k .first) (k .second) (subst (λ (u : List ℕ). PartsJoin (mainOf a) (mainOf b) rs ss room (W.Bytes size) u) (sym e) (subst (λ (i : ℕ). PartsJoin (mainOf a) (mainOf b) rs ss room (W.Bytes i) (c ++ drop n room)) (sym (p .size-is)) w))
+      where
+        take-zero : (v : List ℕ) → take 0 v ≡ []
+        take-zero [] = refl
+        take-zero (y ∷ v) = refl
+
+-- the same, at the code's names
+pub answer-at : {a b room exit : List ℕ} {r s : Written} → r ≡ s → JoinIs a b room s exit → JoinIs a b room r exit
+answer-at {a} {b} {room} {exit} e c = subst (λ (x : Written). JoinIs a b room x exit) (sym e) c

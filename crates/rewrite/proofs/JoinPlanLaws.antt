@@ -170,6 +170,10 @@ one-sphr {a} t =
         go true e = omega arith
         go false e = omega arith
 
+pub one-most : {r : ℕ} (b : Bool) → r ≡ cond b 0 1 → r ≤ 1
+one-most true e = omega arith
+one-most false e = omega arith
+
 front-count : (fs : List (List ℕ)) (n : ℕ) → length fs ≤ 1 → n ≡ bytes fs → ((r : List ℕ) → In r fs → Own r) → cond (eqb n 0) 0 1 ≡ length fs
 front-count [] n h e f = rw e refl
 front-count (r ∷ []) n h e f = rw (ne-eqb n 0 (λ z. omega (arith, f r (top refl) .least))) refl

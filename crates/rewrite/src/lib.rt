@@ -5,6 +5,7 @@ pub use calendar::Refusal;
 mod copy;
 pub mod cut;
 mod gather;
+pub mod join;
 mod kinds;
 mod lines;
 mod plan;

@@ -1,0 +1,88 @@
+// Two products joined into one (02, request Seven).
+use crate::copy::copy;
+use crate::copy::is_same;
+use crate::cut::refused;
+use crate::gather::gather;
+use crate::kinds::put_pointers;
+use crate::lines::four_agree;
+use crate::lines::put_join_header;
+use crate::lines::sums_fit;
+use crate::plan::Plan;
+use crate::plan::plan_of;
+use crate::sections::Sections;
+use crate::sections::sections_of;
+use crate::times::is_after;
+use judge::arrival::Extent;
+use judge::arrival::judge_extent;
+use meter::integer::Written;
+ghost use mathlib.Core.Path.{_≡_};
+ghost use mathlib.Core.Bool.{cond};
+ghost use lib.Dec.{eqb};
+ghost use lib.ListN.{length};
+ghost use Rattle.demands.specs.Product.{Meets};
+ghost use Rattle.parts.specs.Parts.{mainOf};
+ghost use Rattle.parts.specs.Join.{Like};
+ghost use Rattle.parts.specs.Pass.{Alike};
+ghost use Rattle.rewrite.specs.Comparing.{Decides};
+ghost use Rattle.rewrite.specs.Join.{JoinIs};
+ghost use Rattle.rewrite.specs.Joining.{Two, Sections2, Matched, Gathering2, Gathers2, JoinPlanned, PutsJoin, LikeIs, AlikeIs};
+
+// "with identical SPHR and global records".
+fn is_like(first: &[u8], f: Sections, second: &[u8], g: Sections) -> bool
+    requires { ⌜ Sections2 (now first) (now second) f g ⌝ }
+    ensures { λ r. ⌜ LikeIs (now (first .entry)) (now (second .entry)) r ⌝ }
+{
+    if f.sphr != g.sphr {
+        return false;
+    }
+    if f.global != g.global {
+        return false;
+    }
+    if !is_same(first, 3307, second, 3307, f.sphr) {
+        return false;
+    }
+    is_same(first, 3307 + f.sphr + f.ipr, second, 3307 + g.sphr + g.ipr, f.global)
+}
+
+fn is_alike(first: &[u8], f: Sections, second: &[u8], g: Sections) -> bool
+    requires { ⌜ Sections2 (now first) (now second) f g ⌝ }
+    ensures { λ r. ⌜ AlikeIs (now (first .entry)) (now (second .entry)) r ⌝ }
+{
+    if !four_agree(&first[..3307], &second[..3307]) {
+        return false;
+    }
+    is_like(first, f, second, g)
+}
+
+// 0 or 1 records in a section of n bytes.
+fn one_in(n: usize) -> usize
+    ensures { λ r. ⌜ r ≡ cond (eqb n 0) 0 1 ⌝ }
+{
+    if n == 0 { 0 } else { 1 }
+}
+
+// The records that are carried over, in the order of the result; how many they are comes back.
+fn gather_both(
+    first: &[u8],
+    f: Sections,
+    second: &[u8],
+    g: Sections,
+    table: &mut [u32],
+    tally: &mut [usize],
+) -> usize
+    requires { ⌜ Gathering2 (now first) (now second) f g (now table) (now tally) ⌝ }
+    ensures { λ r. ⌜ Gathers2 (now (first .entry)) (now (second .entry)) f r (now (table .exit)) (now (tally .exit)) ⌝ }
+{
+    let global = 3307 + f.sphr + f.ipr;
+    let mdr = global + f.global + f.variable;
+    let variable = 3307 + g.sphr + g.ipr + g.global;
+    let other = variable + g.variable;
+    let aux = gather(first, global, mdr, 0, table, tally);
+    let more = gather(second, variable, other, mdr - global, table, tally);
+    let before = (mdr - global) + (other - variable);
+    let mdrs = gather(first, mdr, first.len(), before, table, tally);
+    let others = gather(second, other, second.len(), before + (first.len() - mdr), table, tally);
+    let front = one_in(f.sphr);
+    tally[2] = front;
+    front + aux + more + mdrs + others
+}

@@ -38,7 +38,7 @@ use Rattle.rewrite.specs.Planning.{TotalsOf}
 use Rattle.rewrite.specs.Assembling.{Collected, sizeOf, Unplanned, big, long, Planned}
 use Rattle.rewrite.specs.Cut.{refusedAt}
 use Rattle.rewrite.specs.Join.{PartsJoin, JoinIs, unlike, out-of-time, too-much, no-room, written, both}
-use Rattle.rewrite.specs.Joining.{Headers, joinLinesBy, JoinHeaderFor, JoinHeaderIs, Two, Sections2, rsOf, ssOf, LikeIs, AlikeIs, Matched, Gathering2, Gathers2, JoinPlanned, PutsJoin}
+use Rattle.rewrite.specs.Joining.{PutsRecords, Headers, joinLinesBy, JoinHeaderFor, JoinHeaderIs, Two, Sections2, rsOf, ssOf, LikeIs, AlikeIs, Matched, Gathering2, Gathers2, JoinPlanned, PutsJoin}
 use Rattle.rewrite.proofs.CopyLaws.{sets-append}
 use Rattle.rewrite.proofs.CompareLaws.{no-it-is, yes-it-is, decides-as}
 use Rattle.rewrite.proofs.AssembleLaws.{joined-append, count-append, count-none, count-all, assembled-text, pointers-text, pointers-long, totals-fit, put-together}
@@ -352,13 +352,6 @@ module _ {a b : List ℕ} {x y : Sections} {table totals : List ℕ} {at size : 
   pub planned-pointers : 3307 + x .sphr + length (pointersFrom a at table 0) ≡ at
   planned-pointers = omega (arith, pointers-long a (p .holds) (p .kinded) at, p .planned .base-is, p .matched .found .first .sphr)
 
-  -- the bytes of what is put after the pointers, and the room for it
-  pub planned-size : at + (x .global + x .variable) + y .variable + (length a - (3307 + x .sphr + x .ipr + x .global + x .variable)) + (length b - (3307 + y .sphr + y .ipr + y .global + y .variable)) ≡ size
-  planned-size =
-      let u : length a - (3307 + x .sphr + x .ipr + x .global + x .variable) ≡ bytes (only isMdr (rsOf a b (p .matched .found .two))) = omega (arith, sections-come (p .matched .found .two .first) (p .matched .found .first)) in
-      let v : length b - (3307 + y .sphr + y .ipr + y .global + y .variable) ≡ bytes (only isMdr (ssOf a b (p .matched .found .two))) = omega (arith, sections-come (p .matched .found .two .second) (p .matched .found .second)) in
-      rw (u, v) (omega (arith, together-bytes (p .matched .found), p .planned .size-is, p .planned .base-is, assembled-bytes (mainOf a) (only isSphr (rsOf a b (p .matched .found .two))) (together (rsOf a b (p .matched .found .two)) (ssOf a b (p .matched .found .two)))))
-
 four-texts :
     (x A B C E y₁ y₂ y₃ y₄ : List ℕ) (i j k l : ℕ) → j ≡ i + length A → k ≡ j + length B → l ≡ k + length C → y₁ ≡ sets x i A → y₂ ≡ sets y₁ j B → y₃ ≡ sets y₂ k C → y₄ ≡ sets y₃ l E
     → y₄ ≡ sets x i (A ++ (B ++ (C ++ E)))
@@ -386,21 +379,66 @@ lines-same m n totals size ps t e =
       each 8 (omega arith) (omega arith),
     ) refl
 
-pub record Texts (a b : List ℕ) (x y : Sections) (at : ℕ) (header room x₁ x₂ : List ℕ) (pointers : List ℕ) (to : ℕ) (x₃ y₁ y₂ y₃ y₄ : List ℕ) : Type 0 where
-  pub head : x₁ ≡ sets room 0 (take 3307 (drop 0 header))
-  pub front : x₂ ≡ sets x₁ 3307 (take (x .sphr) (drop 3307 a))
-  pub point : PutsText pointers x₂ (3307 + x .sphr) to x₃
-  pub aux : y₁ ≡ sets x₃ at (take (x .global + x .variable) (drop (3307 + x .sphr + x .ipr) a))
-  pub more : y₂ ≡ sets y₁ (at + (x .global + x .variable)) (take (y .variable) (drop (3307 + y .sphr + y .ipr + y .global) b))
-  pub mdrs : y₃ ≡ sets y₂ (at + (x .global + x .variable) + y .variable) (take (length a - (3307 + x .sphr + x .ipr + x .global + x .variable)) (drop (3307 + x .sphr + x .ipr + x .global + x .variable) a))
-  pub others :
-      y₄ ≡ sets y₃ (at + (x .global + x .variable) + y .variable + (length a - (3307 + x .sphr + x .ipr + x .global + x .variable))) (take (length b - (3307 + y .sphr + y .ipr + y .global + y .variable)) (drop (3307 + y .sphr + y .ipr + y .global + y .variable) b))
+-- ---- the four stretches are the records of the join
+module _ {a b : List ℕ} {x y : Sections} (s : Sections2 a b x y) (i j k l : ℕ)
+    (ei : i ≡ 3307 + x .sphr + x .ipr) (ej : j ≡ i + x .global + x .variable) (ek : k ≡ 3307 + y .sphr + y .ipr + y .global) (el : l ≡ k + y .variable) where
+  aux-part : Stretch a i j (only isGlobal (rsOf a b (s .two)) ++ only isVariable (rsOf a b (s .two)))
+  aux-part = aux-stretch (s .two .first) (s .first) i j ei ej
+
+  more-part : Stretch b k l (only isVariable (ssOf a b (s .two)))
+  more-part = variable-stretch (s .two .second) (s .second) k l ek el
+
+  mdr-part : Stretch a j (length a) (only isMdr (rsOf a b (s .two)))
+  mdr-part = mdr-stretch (s .two .first) (s .first) j (length a) (ej ∙ ap (λ (n : ℕ). n + x .global + x .variable) ei) refl
+
+  other-part : Stretch b l (length b) (only isMdr (ssOf a b (s .two)))
+  other-part = mdr-stretch (s .two .second) (s .second) l (length b) (el ∙ ap (λ (n : ℕ). n + y .variable) ek) refl
+
+  pub four-bytes : bytes (together (rsOf a b (s .two)) (ssOf a b (s .two))) ≡ (j - i) + (l - k) + (length a - j) + (length b - l)
+  four-bytes =
+      let u : j - i ≡ x .global + x .variable = omega arith in
+      let v : l - k ≡ y .variable = omega arith in
+      let w : length a - j ≡ bytes (only isMdr (rsOf a b (s .two))) = omega (arith, mdr-part .end) in
+      let z : length b - l ≡ bytes (only isMdr (ssOf a b (s .two))) = omega (arith, other-part .end) in
+      rw (u, v, w, z) (omega (arith, together-bytes s))
+
+  pub puts-records :
+      (at : ℕ) (room y₁ y₂ y₃ y₄ : List ℕ) → y₁ ≡ sets room at (take (j - i) (drop i a)) → y₂ ≡ sets y₁ (at + (j - i)) (take (l - k) (drop k b))
+      → y₃ ≡ sets y₂ (at + (j - i) + (l - k)) (take (length a - j) (drop j a)) → y₄ ≡ sets y₃ (at + (j - i) + (l - k) + (length a - j)) (take (length b - l) (drop l b))
+      → PutsRecords a b at room y₄
+  puts-records at room y₁ y₂ y₃ y₄ e₁ e₂ e₃ e₄ t =
+      let rs = rsOf a b (s .two) in
+      let ss = ssOf a b (s .two) in
+      let g = only isGlobal rs ++ only isVariable rs in
+      let v = only isVariable ss in
+      let d = only isMdr rs in
+      let e = only isMdr ss in
+      let tg = stretch-text g (j - i) aux-part refl in
+      let tv = stretch-text v (l - k) more-part refl in
+      let td = stretch-text d (length a - j) mdr-part refl in
+      let te = stretch-text e (length b - l) other-part refl in
+      let lg : length (joined g) ≡ j - i = bytes-joined g ∙ omega (arith, aux-part .end) in
+      let lv : length (joined v) ≡ l - k = bytes-joined v ∙ omega (arith, more-part .end) in
+      let ld : length (joined d) ≡ length a - j = bytes-joined d ∙ omega (arith, mdr-part .end) in
+      let four = four-texts room (joined g) (joined v) (joined d) (joined e) y₁ y₂ y₃ y₄ at (at + (j - i)) (at + (j - i) + (l - k)) (at + (j - i) + (l - k) + (length a - j))
+      (ap (λ (n : ℕ). at + n) (sym lg)) (ap (λ (n : ℕ). at + (j - i) + n) (sym lv)) (ap (λ (n : ℕ). at + (j - i) + (l - k) + n) (sym ld))
+      (e₁ ∙ ap (sets room at) tg) (e₂ ∙ ap (sets y₁ (at + (j - i))) tv) (e₃ ∙ ap (sets y₂ (at + (j - i) + (l - k))) td) (e₄ ∙ ap (sets y₃ (at + (j - i) + (l - k) + (length a - j))) te) in
+      let kt : joined (together rs ss) ≡ joined g ++ (joined v ++ (joined d ++ joined e)) =
+      ap joined (sym (append-assoc (only isGlobal rs) (only isVariable rs) (v ++ (d ++ e))))
+      ∙ joined-append g (v ++ (d ++ e))
+      ∙ ap (λ (q : List ℕ). joined g ++ q) (joined-append v (d ++ e) ∙ ap (λ (q : List ℕ). joined v ++ q) (joined-append d e)) in
+      four ∙ ap (sets room at) (sym kt)
+      ∙ ap (λ (q : List (List ℕ)). sets room at (joined (together q ss))) (first-same (s .two) t)
+      ∙ ap (λ (q : List (List ℕ)). sets room at (joined (together (rsOf a b t) q))) (second-same (s .two) t)
 
 module _ {a b : List ℕ} {x y : Sections} {table totals : List ℕ} {at size : ℕ} {room : List ℕ} (p : JoinPlanned a b x y table totals at size room) where
+  pub planned-bytes : at + bytes (together (rsOf a b (p .matched .found .two)) (ssOf a b (p .matched .found .two))) ≡ size
+  planned-bytes = omega (arith, p .planned .size-is, p .planned .base-is, assembled-bytes (mainOf a) (only isSphr (rsOf a b (p .matched .found .two))) (together (rsOf a b (p .matched .found .two)) (ssOf a b (p .matched .found .two))))
+
   pub puts-join :
-      {header x₁ x₂ x₃ y₁ y₂ y₃ y₄ : List ℕ} {to : ℕ} → JoinHeaderIs (mainOf a) (mainOf b) totals size header
-      → Texts a b x y at header room x₁ x₂ (pointersFrom a at table 0) to x₃ y₁ y₂ y₃ y₄ → PutsJoin a b room y₄
-  puts-join {header} {x₁} {x₂} {x₃} {y₁} {y₂} {y₃} {y₄} {to} lines q =
+      {header x₁ x₂ x₃ x₄ : List ℕ} {to : ℕ} → JoinHeaderIs (mainOf a) (mainOf b) totals size header → x₁ ≡ sets room 0 (take 3307 (drop 0 header))
+      → x₂ ≡ sets x₁ 3307 (take (x .sphr) (drop 3307 a)) → PutsText (pointersFrom a at table 0) x₂ (3307 + x .sphr) to x₃ → PutsRecords a b at x₃ x₄ → PutsJoin a b room x₄
+  puts-join {header} {x₁} {x₂} {x₃} {x₄} {to} lines e₁ e₂ q k =
       let s = p .matched .found in
       let t = s .two in
       let rs = rsOf a b t in
@@ -409,42 +447,19 @@ module _ {a b : List ℕ} {x y : Sections} {table totals : List ℕ} {at size : 
       let f = only isSphr rs in
       let ks = together rs ss in
       let o = pointers m at (firsts 0 ks) in
-      let g = only isGlobal rs ++ only isVariable rs in
-      let v = only isVariable ss in
-      let d = only isMdr rs in
-      let e = only isMdr ss in
-      let i = 3307 + x .sphr + x .ipr in
-      let j = 3307 + y .sphr + y .ipr + y .global in
-      let ga = aux-stretch (t .first) (s .first) i (i + x .global + x .variable) refl refl in
-      let va = variable-stretch (t .second) (s .second) j (j + y .variable) refl refl in
-      let da = mdr-stretch (t .first) (s .first) (i + x .global + x .variable) (length a) refl refl in
-      let ea = mdr-stretch (t .second) (s .second) (j + y .variable) (length b) refl refl in
-      let tg = stretch-text g (x .global + x .variable) ga (omega arith) in
-      let tv = stretch-text v (y .variable) va (omega arith) in
-      let td = stretch-text d (length a - (i + x .global + x .variable)) da refl in
-      let te = stretch-text e (length b - (j + y .variable)) ea refl in
-      let lg : length (joined g) ≡ x .global + x .variable = bytes-joined g ∙ omega (arith, ga .end) in
-      let lv : length (joined v) ≡ y .variable = bytes-joined v ∙ omega (arith, va .end) in
-      let ld : length (joined d) ≡ length a - (i + x .global + x .variable) = bytes-joined d ∙ omega (arith, da .end) in
-      let h₁ : x₁ ≡ sets room 0 header = q .head ∙ ap (sets room 0) (ap (take 3307) (drop-none header) ∙ take-all 3307 header (omega (arith, lines .long))) in
+      let h₁ : x₁ ≡ sets room 0 header = e₁ ∙ ap (sets room 0) (ap (take 3307) (drop-none header) ∙ take-all 3307 header (omega (arith, lines .long))) in
       let lf : length (joined f) ≡ x .sphr = bytes-joined f ∙ sym (s .first .sphr) in
-      let h₂ : x₂ ≡ sets x₁ 3307 (joined f) = q .front ∙ ap (sets x₁ 3307) (sphr-text (t .first) (s .first)) in
+      let h₂ : x₂ ≡ sets x₁ 3307 (joined f) = e₂ ∙ ap (sets x₁ 3307) (sphr-text (t .first) (s .first)) in
       let ot = pointers-text a (p .holds) (p .kinded) at in
       let n₃ : 3307 + x .sphr ≡ 3307 + length (joined f) = omega (arith, lf) in
-      let h₃ : x₃ ≡ sets x₂ (3307 + length (joined f)) (joined o) = q .point .put ∙ ap (sets x₂ (3307 + x .sphr)) ot ∙ ap (λ (n : ℕ). sets x₂ n (joined o)) n₃ in
+      let h₃ : x₃ ≡ sets x₂ (3307 + length (joined f)) (joined o) = q .put ∙ ap (sets x₂ (3307 + x .sphr)) ot ∙ ap (λ (n : ℕ). sets x₂ n (joined o)) n₃ in
       let n₄ : at ≡ 3307 + length (joined f) + length (joined o) = omega (arith, planned-pointers p, lf, ap length ot) in
-      let four = four-texts x₃ (joined g) (joined v) (joined d) (joined e) y₁ y₂ y₃ y₄ at (at + (x .global + x .variable)) (at + (x .global + x .variable) + y .variable) (at + (x .global + x .variable) + y .variable + (length a - (i + x .global + x .variable))) (omega (arith, lg)) (omega (arith, lv)) (omega (arith, ld))
-      (q .aux ∙ ap (sets x₃ at) tg) (q .more ∙ ap (sets y₁ (at + (x .global + x .variable))) tv) (q .mdrs ∙ ap (sets y₂ (at + (x .global + x .variable) + y .variable)) td) (q .others ∙ ap (sets y₃ (at + (x .global + x .variable) + y .variable + (length a - (i + x .global + x .variable)))) te) in
-      let kt : joined ks ≡ joined g ++ (joined v ++ (joined d ++ joined e)) =
-      ap joined (sym (append-assoc (only isGlobal rs) (only isVariable rs) (v ++ (d ++ e))))
-      ∙ joined-append g (v ++ (d ++ e))
-      ∙ ap (λ (l : List ℕ). joined g ++ l) (joined-append v (d ++ e) ∙ ap (λ (l : List ℕ). joined v ++ l) (joined-append d e)) in
-      let h₄ : y₄ ≡ sets x₃ (3307 + length (joined f) + length (joined o)) (joined ks) = four ∙ ap (sets x₃ at) (sym kt) ∙ ap (λ (n : ℕ). sets x₃ n (joined ks)) n₄ in
+      let h₄ : x₄ ≡ sets x₃ (3307 + length (joined f) + length (joined o)) (joined ks) = k t ∙ ap (λ (n : ℕ). sets x₃ n (joined ks)) n₄ in
       record {
         two = t;
         header = header;
         lines = subst (λ (l : List Anew). Rewritten m header (valuesOf l)) (lines-same m (mainOf b) totals size (joinParts m rs ss) (p .planned .totals-of) (p .planned .size-is)) lines;
-        put = put-together room header (joined f) (joined o) (joined ks) x₁ x₂ x₃ y₄ (lines .long) h₁ h₂ h₃ h₄ ∙ ap (λ (l : List ℕ). sets room 0 (header ++ l)) (sym (assembled-text m f ks at (p .planned .base-is)));
+        put = put-together room header (joined f) (joined o) (joined ks) x₁ x₂ x₃ x₄ (lines .long) h₁ h₂ h₃ h₄ ∙ ap (λ (l : List ℕ). sets room 0 (header ++ l)) (sym (assembled-text m f ks at (p .planned .base-is)));
       }
     where
       drop-none : (v : List ℕ) → drop 0 v ≡ v

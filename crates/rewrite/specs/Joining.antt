@@ -6,7 +6,7 @@ use mathlib.Core.List.{List, [], _∷_, _++_, List·Memᴰ as In}
 use lib.ListN.{length, getD, take, drop}
 use lib.Seq.{sets}
 use Rattle.demands.specs.Product.{MainHeader, Meets}
-use Rattle.parts.specs.Parts.{bytes, bytesOf, mainOf, recordsAt}
+use Rattle.parts.specs.Parts.{joined, bytes, bytesOf, mainOf, recordsAt}
 use Rattle.parts.specs.Only.{only, isSphr}
 use Rattle.parts.specs.Kinds.{Kinded}
 use Rattle.parts.specs.Join.{together, joinParts, Like}
@@ -93,6 +93,15 @@ pub record Gathering2 (a b : List ℕ) (x y : Sections) (table tally : List ℕ)
 abbrev pub Gathers2 : (a b : List ℕ) → Sections → ℕ → List ℕ → List ℕ → Type 0
 Gathers2 a b x records table tally =
     (t : Two a b) → Collected (only isSphr (rsOf a b t)) (together (rsOf a b t) (ssOf a b t)) table tally (x .sphr) (bytes (together (rsOf a b t) (ssOf a b t))) records
+
+-- a room for the records from byte `at` on; they stand there, and the other bytes are kept
+pub record RecordsFor (a b : List ℕ) (x y : Sections) (at : ℕ) (room : List ℕ) : Type 0 where
+  pub found : Sections2 a b x y
+  pub fits : at + bytes (together (rsOf a b (found .two)) (ssOf a b (found .two))) ≤ length room
+  pub low : at ≤ 2147483647
+
+abbrev pub PutsRecords : (a b : List ℕ) → ℕ → List ℕ → List ℕ → Type 0
+PutsRecords a b at room exit = (t : Two a b) → exit ≡ sets room at (joined (together (rsOf a b t) (ssOf a b t)))
 
 -- all that the writing rests on
 pub record JoinPlanned (a b : List ℕ) (x y : Sections) (table totals : List ℕ) (at size : ℕ) (room : List ℕ) : Type 0 where

@@ -25,7 +25,8 @@ ghost use Rattle.parts.specs.Join.{Like};
 ghost use Rattle.parts.specs.Pass.{Alike};
 ghost use Rattle.rewrite.specs.Comparing.{Decides};
 ghost use Rattle.rewrite.specs.Join.{JoinIs};
-ghost use Rattle.rewrite.specs.Joining.{Two, Sections2, Matched, Gathering2, Gathers2, JoinPlanned, PutsJoin, LikeIs, AlikeIs};
+ghost use Rattle.rewrite.specs.Joining.{Two, Sections2, Matched, Gathering2, Gathers2, LikeIs, AlikeIs};
+ghost use Rattle.rewrite.specs.Joining.{RecordsFor, PutsRecords, JoinPlanned, PutsJoin};
 
 // "with identical SPHR and global records".
 fn is_like(first: &[u8], f: Sections, second: &[u8], g: Sections) -> bool
@@ -85,4 +86,50 @@ fn gather_both(
     let front = one_in(f.sphr);
     tally[2] = front;
     front + aux + more + mdrs + others
+}
+
+// The records that are carried over, into the room from `at` on.
+fn put_records(
+    first: &[u8],
+    f: Sections,
+    second: &[u8],
+    g: Sections,
+    room: &mut [u8],
+    at: usize,
+)
+    requires { ⌜ RecordsFor (now first) (now second) f g at (now room) ⌝ }
+    ensures { λ _. ⌜ PutsRecords (now (first .entry)) (now (second .entry)) at (now (room .entry)) (now (room .exit)) ⌝ }
+{
+    let global = 3307 + f.sphr + f.ipr;
+    let mdr = global + f.global + f.variable;
+    let variable = 3307 + g.sphr + g.ipr + g.global;
+    let other = variable + g.variable;
+    copy(first, global, mdr - global, room, at);
+    copy(second, variable, other - variable, room, at + (mdr - global));
+    let to = at + (mdr - global) + (other - variable);
+    copy(first, mdr, first.len() - mdr, room, to);
+    copy(second, other, second.len() - other, room, to + (first.len() - mdr));
+}
+
+// The result, at the start of a room that is long enough.
+fn put_join(
+    first: &[u8],
+    f: Sections,
+    second: &[u8],
+    g: Sections,
+    table: &[u32],
+    totals: &[usize],
+    base: usize,
+    size: usize,
+    room: &mut [u8],
+)
+    requires { ⌜ JoinPlanned (now first) (now second) f g (now table) (now totals) base size (now room) ⌝ }
+    ensures { λ _. ⌜ PutsJoin (now (first .entry)) (now (second .entry)) (now (room .entry)) (now (room .exit)) ⌝ }
+{
+    let mut header = [0u8; 3307];
+    put_join_header(&first[..3307], &second[..3307], totals, size, &mut header);
+    copy(&header, 0, 3307, room, 0);
+    copy(first, 3307, f.sphr, room, 3307);
+    put_pointers(first, table, base, room, 3307 + f.sphr);
+    put_records(first, f, second, g, room, base);
 }

@@ -223,4 +223,3 @@ put-together room m f p k x₁ x₂ x₃ x₄ l e₁ e₂ e₃ e₄ =
     let two : sets x₁ 3307 (f ++ (p ++ k)) ≡ sets x₂ (3307 + length f) (p ++ k) = sets-append x₁ 3307 f (p ++ k) ∙ ap (λ (x : List ℕ). sets x (3307 + length f) (p ++ k)) (sym e₂) in
     let three : sets x₂ (3307 + length f) (p ++ k) ≡ sets x₃ (3307 + length f + length p) k = sets-append x₂ (3307 + length f) p k ∙ ap (λ (x : List ℕ). sets x (3307 + length f + length p) k) (sym e₃) in
     sym (one ∙ two ∙ three ∙ sym e₄)
-

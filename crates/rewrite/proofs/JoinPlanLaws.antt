@@ -11,6 +11,9 @@ use borrow.Author.Tests.{eq-eqb, ne-eqb}
 use lib.Dec.{eqb}
 use lib.ListN.{length, getD, set, take, drop, replicate, length-append, length-set}
 use lib.Seq.{sets, sets-eq, take-all, length-take-le, getD-set-same, getD-set-other}
+use Rattle.meter.specs.Time.{compared}
+use Rattle.meter.specs.declared.time.Time.{Time}
+use Rattle.record.specs.Times.{isAfter}
 use Rattle.meter.specs.declared.integer.Written.{Written}
 use Rattle.meter.specs.declared.integer.Written.the-variants as W
 use Rattle.demands.specs.Product.{class, Meets}
@@ -21,7 +24,7 @@ use Rattle.parts.specs.Kinds.{Kinded}
 use Rattle.parts.specs.Pointers.{firsts, pointers, base, assembled}
 use Rattle.parts.specs.Join.{together, joinParts, Like}
 use Rattle.parts.specs.JoinHeader.{joinLines, joinValues, SumsFit}
-use Rattle.parts.specs.Pass.{FourAgree, Alike, InTime, Joinable, joinSize, IsJoin}
+use Rattle.parts.specs.Pass.{FourAgree, Alike, lastDefinedStop, firstDefinedStart, InTime, Joinable, joinSize, IsJoin}
 use Rattle.parts.specs.Rewritten.{Rewritten, Anew, valuesOf, countLines, Holdable}
 use Rattle.parts.proofs.Built.{bytes-joined, meets-built}
 use Rattle.parts.proofs.OnlyLaws.{only-in}
@@ -32,7 +35,8 @@ use Rattle.rewrite.specs.declared.sections.Sections.{Sections}
 use Rattle.rewrite.specs.Table.{Holds}
 use Rattle.rewrite.specs.Emitting.{pointersFrom, PutsText}
 use Rattle.rewrite.specs.Comparing.{Decides, SameIs}
-use Rattle.rewrite.specs.Sectioning.{SectionsAre}
+use Rattle.parts.proofs.WalkLaws.{walk-first}
+use Rattle.rewrite.specs.Sectioning.{SectionsAre, Sectionable, Sectioned}
 use Rattle.rewrite.specs.Gathering.{Gathered, Stretch, Gatherable, Gathers}
 use Rattle.rewrite.specs.Planning.{TotalsOf}
 use Rattle.rewrite.specs.Assembling.{Collected, sizeOf, Unplanned, big, long, Planned}
@@ -86,6 +90,16 @@ alike-fields d e t = no-it-is (λ l. d .wrong e (l .fields))
 
 pub alike-last : {a b : List ℕ} {q r : Bool} → Decides (FourAgree (mainOf a) (mainOf b)) q → q ≡ true → LikeIs a b r → AlikeIs a b r
 alike-last d e l t = decides-as (λ w. record { fields = d .right e; records = w }) (λ w. w .records) (l t)
+
+-- ---- a product can be walked
+pub sectionable : {a : List ℕ} → Meets a → Sectionable a
+sectionable {a} t = record { small = omega (arith, t .come, t .header .most); records = recordsAt a (t .list); walk = walk-first a t; order = meets-built a t .tiles .order }
+
+pub two-sections : {a b : List ℕ} {x y : Sections} (t : Two a b) → Sectioned a x → Sectioned b y → Sections2 a b x y
+two-sections {a} {b} t f g = record { two = t; first = f .found (recordsAt a (t .first .list)) (walk-first a (t .first)); second = g .found (recordsAt b (t .second .list)) (walk-first b (t .second)) }
+
+pub two-low : (p q : ℕ) → p ≤ 2147483647 → q ≤ 2147483647 → p + q < 18446744073709551616
+two-low p q h l = omega arith
 
 -- ---- headers
 pub two-headers : {a b : List ℕ} → Two a b → Headers (mainOf a) (mainOf b)
@@ -187,7 +201,8 @@ module _ {a b : List ℕ} {x y : Sections} (s : Sections2 a b x y) (bytes-a : By
   pub collected :
       {table tally tally′ : List ℕ} {n front aux more mdrs others records : ℕ} → Gathered (together (rsOf a b (s .two)) (ssOf a b (s .two))) table tally n → front ≡ cond (eqb (x .sphr) 0) 0 1 → tally′ ≡ set tally 2 front
       → aux ≡ length (only isGlobal (rsOf a b (s .two)) ++ only isVariable (rsOf a b (s .two))) → more ≡ length (only isVariable (ssOf a b (s .two))) → mdrs ≡ length (only isMdr (rsOf a b (s .two))) → others ≡ length (only isMdr (ssOf a b (s .two)))
-      → records ≡ front + aux + more + mdrs + others → Gathers2 a b x records table tally′
+      → records ≡ front + aux + more + mdrs + others
+      → (t : Two a b) → Collected (only isSphr (rsOf a b t)) (together (rsOf a b t) (ssOf a b t)) table tally′ (x .sphr) (bytes (together (rsOf a b t) (ssOf a b t))) records
   collected {table} {tally} {tally′} {n} {front} {aux} {more} {mdrs} {others} {records} g e d p q u v w t =
       let r = rsOf a b (s .two) in
       let k = ssOf a b (s .two) in
@@ -324,7 +339,10 @@ module _ {a b : List ℕ} {x y : Sections} {table tally : List ℕ} (g : Gatheri
               counted (r ∷ xs) ys f = omega (arith, f r (top refl) .least, counted xs ys (λ q n. f q (pop n)))
 
           pub all-gathered : Bytes a → Bytes b → {tally′ : List ℕ} (front records : ℕ) → front ≡ cond (eqb (x .sphr) 0) 0 1 → tally′ ≡ set t₄ 2 front → records ≡ front + r₁ + r₂ + r₃ + r₄ → Gathers2 a b x records T₄ tally′
-          all-gathered u v front records e d w = collected (g .found) u v got-4 e d (g₁ .many _ first-part) (g₂ .many _ second-part) (g₃ .many _ third-part) (g₄ .many _ fourth-part) w
+          all-gathered u v front records e d w = record {
+            few = omega (arith, w, few, one-most (eqb (x .sphr) 0) e);
+            collected = collected (g .found) u v got-4 e d (g₁ .many _ first-part) (g₂ .many _ second-part) (g₃ .many _ third-part) (g₄ .many _ fourth-part) w;
+          }
 
           pub long-4 : length T₄ ≡ 20480
           long-4 = got-4 .holds .long
@@ -466,6 +484,13 @@ module _ {a b : List ℕ} {x y : Sections} {table totals : List ℕ} {at size : 
       drop-none [] = refl
       drop-none (z ∷ v) = refl
 
+-- ---- the times of the sections are those of the records
+pub after-is :
+    {a b : List ℕ} {x y : Sections} {r : Bool} (s : Sections2 a b x y) → isAfter (compared (x .stop) (y .start)) ≡ r
+    → isAfter (compared (lastDefinedStop (rsOf a b (s .two))) (firstDefinedStart (ssOf a b (s .two)))) ≡ r
+after-is {a} {b} {x} {y} s e =
+    ap (λ (t : Time). isAfter (compared t (firstDefinedStart (ssOf a b (s .two))))) (sym (s .first .stop)) ∙ ap (λ (t : Time). isAfter (compared (x .stop) t)) (sym (s .second .start)) ∙ e
+
 -- ---- THE ANSWERS
 module _ {a b room : List ℕ} where
   pub says-unlike : {r : Bool} (t : Two a b) → AlikeIs a b r → r ≡ false → JoinIs a b room (refusedAt 26 0) room
@@ -518,5 +543,8 @@ module _ {a b room : List ℕ} where
         take-zero (y ∷ v) = refl
 
 -- the same, at the code's names
+pub kept-at : {fs ks : List (List ℕ)} {table tally : List ℕ} {front k n records : ℕ} → k ≡ n → Collected fs ks table tally front k records → Collected fs ks table tally front n records
+kept-at {fs} {ks} {table} {tally} {front} {records = records} e c = subst (λ (i : ℕ). Collected fs ks table tally front i records) e c
+
 pub answer-at : {a b room exit : List ℕ} {r s : Written} → r ≡ s → JoinIs a b room s exit → JoinIs a b room r exit
 answer-at {a} {b} {room} {exit} e c = subst (λ (x : Written). JoinIs a b room x exit) (sym e) c

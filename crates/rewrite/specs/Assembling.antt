@@ -34,7 +34,7 @@ pub record Plannable (table tally : List ℕ) (front kept records : ℕ) : Type 
   pub nine : length tally ≡ 9
   pub front-low : front ≤ 2147483647
   pub kept-low : kept ≤ 2147483647
-  pub records-low : records ≤ 2147483647
+  pub records-low : records ≤ 1099511627776
 
 -- 28, then 18
 pub data Unplanned (m : List ℕ) (fs ks : List (List ℕ)) (room : ℕ) : ℕ → ℕ → Type 0 where

@@ -90,9 +90,10 @@ pub record Gathering2 (a b : List ℕ) (x y : Sections) (table tally : List ℕ)
   pub nine : length tally ≡ 9
   pub none : (c : ℕ) → getD tally c 0 ≡ 0
 
-abbrev pub Gathers2 : (a b : List ℕ) → Sections → ℕ → List ℕ → List ℕ → Type 0
-Gathers2 a b x records table tally =
-    (t : Two a b) → Collected (only isSphr (rsOf a b t)) (together (rsOf a b t) (ssOf a b t)) table tally (x .sphr) (bytes (together (rsOf a b t) (ssOf a b t))) records
+pub record Gathers2 (a b : List ℕ) (x : Sections) (records : ℕ) (table tally : List ℕ) : Type 0 where
+  pub few : records ≤ 1099511627776
+  pub collected :
+      (t : Two a b) → Collected (only isSphr (rsOf a b t)) (together (rsOf a b t) (ssOf a b t)) table tally (x .sphr) (bytes (together (rsOf a b t) (ssOf a b t))) records
 
 -- a room for the records from byte `at` on; they stand there, and the other bytes are kept
 pub record RecordsFor (a b : List ℕ) (x y : Sections) (at : ℕ) (room : List ℕ) : Type 0 where

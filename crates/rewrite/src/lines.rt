@@ -237,13 +237,7 @@ fn set_end(header: &mut [u8], m: &[u8], n: &[u8])
 }
 
 // The main header of the join of products with the headers m and n.
-pub(crate) fn put_join_header(
-    m: &[u8],
-    n: &[u8],
-    totals: &[usize],
-    size: usize,
-    header: &mut [u8],
-)
+pub(crate) fn put_join_header(m: &[u8], n: &[u8], totals: &[usize], size: usize, header: &mut [u8])
     requires { ⌜ JoinHeaderFor (now m) (now n) (now totals) size (now header) ⌝ }
     ensures { λ _. ⌜ JoinHeaderIs (now (m .entry)) (now (n .entry)) (now (totals .entry)) size (now (header .exit)) ⌝ }
 {

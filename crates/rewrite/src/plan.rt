@@ -15,7 +15,7 @@ pub enum Plan {
 
 // The totals of the result, where `tally` has those of the records that are carried over.
 pub(crate) fn add_pointers(tally: &mut [usize], records: usize, kinds: usize)
-    requires { ⌜ (length (now tally) ≡ 9) × (records ≤ 2147483647) × (kinds ≤ 20480) ⌝ }
+    requires { ⌜ (length (now tally) ≡ 9) × (records ≤ 1099511627776) × (kinds ≤ 20480) ⌝ }
     ensures { λ r. ⌜ now (tally .exit) ≡ withPointers (now (tally .entry)) records kinds ⌝ }
 {
     tally[0] = 1 + records + kinds;

@@ -35,7 +35,14 @@ fn last_of(time: Time, other: Time) -> Time
     }
 }
 
-fn parts_of(sphr: usize, ipr: usize, global: usize, variable: usize, start: Time, stop: Time) -> Sections
+fn parts_of(
+    sphr: usize,
+    ipr: usize,
+    global: usize,
+    variable: usize,
+    start: Time,
+    stop: Time,
+) -> Sections
     ensures { λ r. ⌜ PartsOf sphr ipr global variable start stop r ⌝ }
 {
     Sections {
@@ -57,20 +64,55 @@ fn section_one(s: &[u8], at: usize, size: usize, found: Sections) -> Sections
     let stop = found.stop;
     let class = s[at];
     if class < 3 {
-        return parts_of(found.sphr + size, found.ipr, found.global, found.variable, start, stop);
+        return parts_of(
+            found.sphr + size,
+            found.ipr,
+            found.global,
+            found.variable,
+            start,
+            stop,
+        );
     }
     if class < 4 {
-        return parts_of(found.sphr, found.ipr + size, found.global, found.variable, start, stop);
+        return parts_of(
+            found.sphr,
+            found.ipr + size,
+            found.global,
+            found.variable,
+            start,
+            stop,
+        );
     }
     if class < 6 {
-        return parts_of(found.sphr, found.ipr, found.global + size, found.variable, start, stop);
+        return parts_of(
+            found.sphr,
+            found.ipr,
+            found.global + size,
+            found.variable,
+            start,
+            stop,
+        );
     }
     if class < 8 {
-        return parts_of(found.sphr, found.ipr, found.global, found.variable + size, start, stop);
+        return parts_of(
+            found.sphr,
+            found.ipr,
+            found.global,
+            found.variable + size,
+            start,
+            stop,
+        );
     }
     let first = first_of(start, time_at(s, at + 8));
     let last = last_of(stop, time_at(s, at + 14));
-    parts_of(found.sphr, found.ipr, found.global, found.variable, first, last)
+    parts_of(
+        found.sphr,
+        found.ipr,
+        found.global,
+        found.variable,
+        first,
+        last,
+    )
 }
 
 pub(crate) fn sections_of(s: &[u8]) -> Sections

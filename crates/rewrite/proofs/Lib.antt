@@ -14,3 +14,4 @@ pub mod AssembleLaws
 pub mod SumLaws
 pub mod StretchLaws
 pub mod JoinPlanLaws
+pub mod JoinLaws

@@ -363,16 +363,7 @@ pub(crate) fn byte_of(w: u64, j: usize) -> u8
     requires { ⌜ j < 8 ⌝ }
     ensures { λ r. ⌜ r ≡ byteOf w j ⌝ }
 {
-    match j {
-        0 => (w / 0x100000000000000 % 256) as u8,
-        1 => (w / 0x1000000000000 % 256) as u8,
-        2 => (w / 0x10000000000 % 256) as u8,
-        3 => (w / 0x100000000 % 256) as u8,
-        4 => (w / 0x1000000 % 256) as u8,
-        5 => (w / 0x10000 % 256) as u8,
-        6 => (w / 0x100 % 256) as u8,
-        _ => (w % 256) as u8,
-    }
+    ((w >> (56 - 8 * j)) % 256) as u8
 }
 
 pub(crate) fn size_of(b: u8) -> usize

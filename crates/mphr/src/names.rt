@@ -9,6 +9,7 @@ use crate::rows::BY_FIRST;
 use crate::rows::BY_LAST;
 use crate::rows::BY_MIDDLE;
 use crate::rows::fields_at;
+use crate::rows::letters_of;
 use calendar::Refusal;
 use meter::integer::Written;
 ghost use mathlib.Core.Path.{_≡_};
@@ -57,12 +58,22 @@ fn matches(name: &[u8], k: usize) -> bool
     eight(name, n - 8) == row[4]
 }
 
-// The only field that can have the name; 72 or more for none.
+// The only field that can have the name; 72 or more for none. Its letters are looked at first: most unknown names go by them.
 fn likely(name: &[u8]) -> usize
     ensures { λ r. ⌜ r ≡ likelyOf (now (name .entry)) ⌝ }
 {
     let n = name.len();
     if n < 9 {
+        return 255;
+    }
+    if 30 < n {
+        return 255;
+    }
+    let letters = letters_of(n);
+    if (letters >> (wide(name[0]) % 32)) % 2 != 1 {
+        return 255;
+    }
+    if (letters >> (32 + wide(name[n - 1]) % 32)) % 2 != 1 {
         return 255;
     }
     let last = eight(name, n - 8) % BY_LAST;

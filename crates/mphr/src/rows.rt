@@ -3,7 +3,7 @@ ghost use mathlib.Core.Path.{_≡_};
 ghost use mathlib.Core.List.{[]};
 ghost use Prim.Native.Nat.{_≤_, _<_};
 ghost use lib.ListN.{getD};
-ghost use Rattle.mphr.specs.Rows.{headWords, endWords, fieldWords};
+ghost use Rattle.mphr.specs.Rows.{headWords, endWords, fieldWords, letterWords};
 
 pub(crate) const BY_LAST: u64 = 261;
 
@@ -247,5 +247,36 @@ pub(crate) fn fields_at(q: u64) -> u64
         29 => 0xffffffffff45ff3b,
         30 => 0xffff4624ff11ffff,
         _ => 0xff18ff42ffffffff,
+    }
+}
+
+// The first and the last letters of the names of n bytes.
+pub(crate) fn letters_of(n: usize) -> u64
+    requires { ⌜ (9 ≤ n) × (n < 31) ⌝ }
+    ensures { λ r. ⌜ r ≡ getD letterWords n 0 ⌝ }
+{
+    match n {
+        9 => 0x0004001002108000,
+        10 => 0x0204400007140000,
+        11 => 0x0014401000199200,
+        12 => 0x0200002000012020,
+        13 => 0x0018001000180200,
+        14 => 0x0000000000000000,
+        15 => 0x00084028000d1000,
+        16 => 0x0010103000050210,
+        17 => 0x0010002000090000,
+        18 => 0x0010000000040000,
+        19 => 0x0010003000090012,
+        20 => 0x0000401000080040,
+        21 => 0x001e000000090000,
+        22 => 0x0010000000080000,
+        23 => 0x0004500000090008,
+        24 => 0x0000c00000040020,
+        25 => 0x0000100000081000,
+        26 => 0x0000000000000000,
+        27 => 0x0000000000000000,
+        28 => 0x0010008000002000,
+        29 => 0x0000080000001000,
+        _ => 0x0008000000000008,
     }
 }

@@ -16,7 +16,7 @@ use Rattle.meter.specs.Integer.{beAt}
 use Rattle.demands.specs.Product.{kind}
 use Rattle.parts.specs.Parts.{bytes}
 use Rattle.parts.specs.Pointers.{Entry, entry, kindOf, Stands, this, later, firsts, Ascends, AreFirsts, part, word, ipr, pointers}
-use Rattle.parts.specs.Kinds.{placeOf, groupAt, kindAt, iprTo, emitted}
+use Rattle.parts.specs.Kinds.{placeOf, groupAt, kindAt, iprTo, emitted, Kinded}
 use Rattle.parts.proofs.FirstsLaws.{above, firsts-are, stands-in, stands-from}
 
 -- ---- entries from a kind on
@@ -190,14 +190,6 @@ covered c g s l h e v = go (decLe g 13) (ℕ-discrete g 15) (ℕ-discrete g 99)
 pub kind-is : (r : List ℕ) → kind r 0 ≡ (getD r 0 0 * 256 + getD r 1 0) * 256 + getD r 2 0
 unfolding beAt
 kind-is r = omega arith
-
--- what is asked of a record that is pointed to
-pub record Kinded (r : List ℕ) : Type 0 where
-  pub four : 4 ≤ getD r 0 0
-  pub eight : getD r 0 0 ≤ 8
-  pub group : isGroup (getD r 1 0) ≡ true
-  pub low : getD r 1 0 < 256
-  pub subclass : getD r 2 0 < 256
 
 pub covers : (r : List ℕ) → Kinded r → Covers (kind r 0)
 covers r k = rw (kind-is r) (covered (getD r 0 0) (getD r 1 0) (getD r 2 0) (k .four) (k .eight) (k .group) (k .subclass))

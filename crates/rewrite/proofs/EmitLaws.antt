@@ -9,11 +9,11 @@ use borrow.Author.Tests.{lt-ltb, le-ltb, eq-eqb, ne-eqb}
 use lib.Dec.{eqb}
 use lib.ListN.{length, getD, take, drop, length-append}
 use Rattle.parts.specs.Pointers.{part, firsts, pointers}
-use Rattle.parts.proofs.KindLaws.{Kinded, pointers-emitted}
+use Rattle.parts.proofs.KindLaws.{pointers-emitted}
 use Rattle.rewrite.specs.Table.{Holds}
 use lib.Seq.{sets, length-sets}
 use Rattle.parts.specs.Parts.{joined}
-use Rattle.parts.specs.Kinds.{groupAt, kindAt, iprTo, emitted}
+use Rattle.parts.specs.Kinds.{groupAt, kindAt, iprTo, emitted, Kinded}
 use Rattle.rewrite.specs.Emitting.{tableOf, placeText, pointersFrom, Place, PutsText, Table}
 use Rattle.rewrite.proofs.CopyLaws.{sets-append}
 

@@ -26,7 +26,7 @@ use Rattle.rewrite.specs.Cut.{refusedAt, cutSize, CutIs, no-window, unfi
 use Rattle.rewrite.proofs.PlanLaws.{same-records}
 
 -- ---- what cannot be together
-clash : {b : Bool} → b ≡ true → b ≡ false → ⊥
+pub clash : {b : Bool} → b ≡ true → b ≡ false → ⊥
 clash t f = true≢false (sym t ∙ f)
 
 -- a product has come whole, so the judge neither refuses it nor waits
@@ -34,25 +34,25 @@ module _ {a : List ℕ} (t : Meets a) where
   entire : (c : ℕ) × ExtentIs a (X.Entire c)
   entire = let k = meets-complete t in let v = complete-covered k in (v .0, (k, v .1))
 
-  not-refused : (r : Refusal) → ExtentIs a (X.Refused r) → ⊥
+  pub not-refused : (r : Refusal) → ExtentIs a (X.Refused r) → ⊥
   not-refused r g = go (unique-extent a (X.Refused r) (X.Entire (entire .0)) g (entire .1))
     where
       go : X.Refused r ≡ X.Entire (entire .0) → ⊥
       go e = let z : _≡_ {A = ℕ} 0 1 = cc in omega arith
 
-  not-part : ExtentIs a X.Part → ⊥
+  pub not-part : ExtentIs a X.Part → ⊥
   not-part g = go (unique-extent a X.Part (X.Entire (entire .0)) g (entire .1))
     where
       go : X.Part ≡ X.Entire (entire .0) → ⊥
       go e = let z : _≡_ {A = ℕ} 0 1 = cc in omega arith
 
-not-both : {a : List ℕ} (r : Refusal) → ExtentIs a (X.Refused r) → ExtentIs a X.Part → ⊥
+pub not-both : {a : List ℕ} (r : Refusal) → ExtentIs a (X.Refused r) → ExtentIs a X.Part → ⊥
 not-both {a} r g h = go (unique-extent a (X.Refused r) X.Part g h)
   where
     go : X.Refused r ≡ X.Part → ⊥
     go e = let z : _≡_ {A = ℕ} 0 1 = cc in omega arith
 
-one-refusal : {a : List ℕ} (r s : Refusal) → ExtentIs a (X.Refused r) → ExtentIs a (X.Refused s) → W.Refused r ≡ W.Refused s
+pub one-refusal : {a : List ℕ} (r s : Refusal) → ExtentIs a (X.Refused r) → ExtentIs a (X.Refused s) → W.Refused r ≡ W.Refused s
 one-refusal {a} r s g h = go (unique-extent a (X.Refused r) (X.Refused s) g h)
   where
     go : X.Refused r ≡ X.Refused s → W.Refused r ≡ W.Refused s

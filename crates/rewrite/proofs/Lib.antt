@@ -7,3 +7,11 @@ pub mod SurveyLaws
 pub mod LineLaws
 pub mod PlanLaws
 pub mod Laws
+pub mod CompareLaws
+pub mod SectionLaws
+pub mod GatherLaws
+pub mod AssembleLaws
+pub mod SumLaws
+pub mod StretchLaws
+pub mod JoinPlanLaws
+pub mod JoinLaws

@@ -145,7 +145,7 @@ pub number-long : (k : ℕ) (x : Number) → length (putNumber (widthOf k) (repl
 number-long k x = number-length (widthOf k) (replicate (widthOf k) 0) x ∙ length-replicate (widthOf k) 0
 
 -- ---- the name
-sets-mid : (p q r v : List ℕ) (i : ℕ) → length p ≡ i → length v ≡ length q → sets (p ++ (q ++ r)) i v ≡ p ++ (v ++ r)
+pub sets-mid : (p q r v : List ℕ) (i : ℕ) → length p ≡ i → length v ≡ length q → sets (p ++ (q ++ r)) i v ≡ p ++ (v ++ r)
 sets-mid p q r v i e d =
     let l = p ++ (q ++ r) in
     let n = length-append p (q ++ r) in
@@ -156,7 +156,7 @@ sets-mid p q r v i e d =
     ∙ ap (λ (x : List ℕ). p ++ (v ++ drop (i + length v) x)) (sym (append-assoc p q r))
     ∙ ap (λ (x : List ℕ). p ++ (v ++ x)) (drop-at (p ++ q) r (i + length v) (omega (arith, length-append p q)))
 
-parted : (n : List ℕ) (i k : ℕ) → drop i n ≡ take k (drop i n) ++ drop (i + k) n
+pub parted : (n : List ℕ) (i k : ℕ) → drop i n ≡ take k (drop i n) ++ drop (i + k) n
 parted n i k = sym (take-append-drop k (drop i n)) ∙ ap (λ (x : List ℕ). take k (drop i n) ++ x) (drop-drop k i n)
 
 pub timed-is : (n f l : List ℕ) → length n ≡ 67 → length f ≡ 15 → length l ≡ 15 → sets (sets n 16 f) 32 l ≡ timed n f l
@@ -178,7 +178,7 @@ timed-is n f l e g h =
     ∙ sets-mid (a ++ (f ++ c)) d r l 32 (length-append a (f ++ c) ∙ omega (arith, length-append f c)) (h ∙ sym ld)
     ∙ simp append-assoc
 
-sets-whole : (z v : List ℕ) → length z ≡ length v → sets z 0 v ≡ v
+pub sets-whole : (z v : List ℕ) → length z ≡ length v → sets z 0 v ≡ v
 sets-whole z v e = ap (λ (x : List ℕ). sets x 0 v) (sym (append-nil z)) ∙ sets-mid [] z [] v 0 refl (sym e) ∙ append-nil v
 
 pub name-is :

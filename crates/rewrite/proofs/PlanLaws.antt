@@ -26,7 +26,7 @@ use Rattle.parts.specs.Pointers.{Entry, part, word, ipr, firsts, pointers, base
 use Rattle.parts.specs.Cut.{Window, isWindow, isChosen, isKept, cutParts}
 use Rattle.parts.specs.CutHeader.{sooner, later, firstFrom, lastFrom, firstStart, lastStop, otherLines, cutValues}
 use Rattle.parts.specs.Rewritten.{Rewritten, Anew, valuesOf, countLines, Holdable}
-use Rattle.parts.specs.Kinds.{kindAt, iprTo, emitted}
+use Rattle.parts.specs.Kinds.{kindAt, iprTo, emitted, Kinded}
 use Rattle.parts.specs.Walk.{Walk}
 use Rattle.parts.specs.TownCut.{cutRecords, IsCut}
 use Rattle.parts.proofs.Built.{bytes-joined, meets-built}
@@ -35,7 +35,7 @@ use Rattle.parts.proofs.CutLaws.{of-class, kept-range}
 use Rattle.parts.proofs.Assembled.{pointers-class, pointers-bytes, assembled-bytes}
 use Rattle.parts.proofs.CutHeaderLaws.{Bytes, parts-byte, count-most}
 use Rattle.parts.proofs.Sections.{sections}
-use Rattle.parts.proofs.KindLaws.{Kinded, pointers-emitted}
+use Rattle.parts.proofs.KindLaws.{pointers-emitted}
 use Rattle.parts.proofs.WalkLaws.{walk-length, walk-first}
 use Rattle.rewrite.specs.declared.survey.Sums.{Sums}
 use Rattle.rewrite.specs.Table.{Holds, filledTo}

@@ -34,17 +34,17 @@ use Rattle.rewrite.proofs.TableLaws.{noted-length, noted-place, kind-of
 use Rattle.rewrite.proofs.KeepLaws.{lead-there, kept-there, start-there, stop-there}
 
 -- ---- one record more
-none-taken : (f : List ℕ → Bool) (pre : List (List ℕ)) (r : List ℕ) → f r ≡ false → only f (pre ++ (r ∷ [])) ≡ only f pre
+pub none-taken : (f : List ℕ → Bool) (pre : List (List ℕ)) (r : List ℕ) → f r ≡ false → only f (pre ++ (r ∷ [])) ≡ only f pre
 none-taken f pre r e = only-append f pre (r ∷ []) ∙ ap (λ (b : Bool). only f pre ++ cond b (r ∷ []) []) e ∙ append-nil (only f pre)
 
-one-taken : (f : List ℕ → Bool) (pre : List (List ℕ)) (r : List ℕ) → f r ≡ true → only f (pre ++ (r ∷ [])) ≡ only f pre ++ (r ∷ [])
+pub one-taken : (f : List ℕ → Bool) (pre : List (List ℕ)) (r : List ℕ) → f r ≡ true → only f (pre ++ (r ∷ [])) ≡ only f pre ++ (r ∷ [])
 one-taken f pre r e = only-append f pre (r ∷ []) ∙ ap (λ (b : Bool). only f pre ++ cond b (r ∷ []) []) e
 
-bytes-snoc : (ks : List (List ℕ)) (r : List ℕ) → bytes (ks ++ (r ∷ [])) ≡ bytes ks + length r
+pub bytes-snoc : (ks : List (List ℕ)) (r : List ℕ) → bytes (ks ++ (r ∷ [])) ≡ bytes ks + length r
 bytes-snoc [] r = omega arith
 bytes-snoc (x ∷ ks) r = omega (arith, bytes-snoc ks r)
 
-count-snoc : (c : ℕ) (ks : List (List ℕ)) (r : List ℕ) → count c (ks ++ (r ∷ [])) ≡ count c ks + cond (eqb (class r 0) c) 1 0
+pub count-snoc : (c : ℕ) (ks : List (List ℕ)) (r : List ℕ) → count c (ks ++ (r ∷ [])) ≡ count c ks + cond (eqb (class r 0) c) 1 0
 count-snoc c [] r = omega arith
 count-snoc c (x ∷ ks) r = omega (arith, count-snoc c ks r)
 
@@ -183,7 +183,7 @@ module _ {w : Window} {pre : List (List ℕ)} {table tally : List ℕ} {v : Sums
 below-same : {i : ℕ} {tally : List ℕ} {v : Sums} (n : ℕ) → Below i tally v → Below (i + n) tally v
 below-same n b = record { front = omega (arith, b .front); kept = omega (arith, b .kept); records = omega (arith, b .records); each = λ c h. omega (arith, b .each c h) }
 
-most-one : (b : Bool) → cond b 1 0 ≤ 1
+pub most-one : (b : Bool) → cond b 1 0 ≤ 1
 most-one true = omega arith
 most-one false = omega arith
 
@@ -205,7 +205,7 @@ pub record Step (a : List ℕ) (i : ℕ) (all pre : List (List ℕ)) : Type 0 wh
   pub walk : Walk a (i + size a i) after
   pub cut : all ≡ (pre ++ (one ∷ [])) ++ after
 
-step : {a : List ℕ} {i : ℕ} {all pre : List (List ℕ)} (rest : List (List ℕ)) → all ≡ pre ++ rest → Next a i rest → Step a i all pre
+pub step : {a : List ℕ} {i : ℕ} {all pre : List (List ℕ)} (rest : List (List ℕ)) → all ≡ pre ++ rest → Next a i rest → Step a i all pre
 step {pre = pre} rest e (next {r = r} {rs = rs} k w) =
     record { one = r; after = rs; ahead = k; walk = rw (ahead-size k) w; cut = e ∙ sym (append-assoc pre (r ∷ []) rs) }
 

@@ -5,3 +5,9 @@ pub mod Surveying
 pub mod Lining
 pub mod Cut
 pub mod Planning
+pub mod Comparing
+pub mod Sectioning
+pub mod Gathering
+pub mod Assembling
+pub mod Join
+pub mod Joining

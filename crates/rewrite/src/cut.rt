@@ -19,7 +19,7 @@ ghost use Rattle.parts.specs.Cut.{window};
 ghost use Rattle.rewrite.specs.Cut.{refusedAt, CutIs};
 ghost use Rattle.rewrite.specs.Planning.{withPointers, Planned, PutsCut, Cuttable};
 
-fn refused(number: u8, place: usize) -> Written
+pub(crate) fn refused(number: u8, place: usize) -> Written
     ensures { λ r. ⌜ r ≡ refusedAt number place ⌝ }
 {
     Written::Refused(Refusal { number, place })

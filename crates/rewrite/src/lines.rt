@@ -1,10 +1,13 @@
 // The main header of a new product: the old one, with lines set anew. Where a line stands is said by `mphr`, its value written by `text`
 // and `meter`.
 use crate::copy::copy;
+use crate::copy::is_same;
 use meter::time::Time;
 use mphr::layout::FieldPlace;
 use mphr::layout::field_place;
+use text::Kind;
 use text::Number;
+use text::count_at;
 ghost use mathlib.Core.Path.{_≡_};
 ghost use mathlib.Core.Bool.{true};
 ghost use Prim.Native.Nat.{_+_, _≤_, _<_};
@@ -12,10 +15,14 @@ ghost use lib.ListN.{length, getD};
 ghost use lib.Seq.{sets};
 ghost use Rattle.meter.specs.Time.{isTime};
 ghost use Rattle.mphr.specs.Layout.{widthOf, lineStart};
-ghost use Rattle.parts.specs.Rewritten.{valueOf};
+ghost use Rattle.parts.specs.JoinHeader.{added, SumsFit};
+ghost use Rattle.parts.specs.Pass.{FourAgree};
+ghost use Rattle.parts.specs.Rewritten.{valueOf, number, fitsLine};
 ghost use Rattle.parts.specs.CutHeader.{toSecond, stamp};
 ghost use Rattle.rewrite.specs.Lining.{Adds, NumberFor, numberLine, wholeNumber, Totals, unknownLines, totalLines};
 ghost use Rattle.rewrite.specs.Lining.{timed, timeLines, HeaderFor, HeaderIs};
+ghost use Rattle.rewrite.specs.Comparing.{Decides, SameIs};
+ghost use Rattle.rewrite.specs.Joining.{Headers, sumLines, endLines, JoinHeaderFor, JoinHeaderIs};
 
 // The value of line k.
 fn set_value(header: &mut [u8], k: usize, value: &[u8])
@@ -127,6 +134,116 @@ pub(crate) fn put_header(
     copy(s, 0, 3307, header, 0);
     set_unknown(header);
     set_times(header, s, start, stop);
+    set_totals(header, totals);
+    set_number(header, 28, whole(size));
+}
+
+// The value of line k is the same in both.
+fn is_agreed(m: &[u8], n: &[u8], k: usize) -> bool
+    requires { ⌜ (k < 72) × (length (now m) ≡ 3307) × (length (now n) ≡ 3307) ⌝ }
+    ensures { λ r. ⌜ SameIs (valueOf (now (m .entry)) k) (valueOf (now (n .entry)) k) r ⌝ }
+{
+    let FieldPlace::Place(place) = field_place(k) else {
+        return false;
+    };
+    is_same(m, place.start + 32, n, place.start + 32, place.width)
+}
+
+// "of equal INSTRUMENT_ID, PRODUCT_TYPE, PROCESSING_LEVEL and SPACECRAFT_ID".
+pub(crate) fn four_agree(m: &[u8], n: &[u8]) -> bool
+    requires { ⌜ (length (now m) ≡ 3307) × (length (now n) ≡ 3307) ⌝ }
+    ensures { λ r. ⌜ Decides (FourAgree (now (m .entry)) (now (n .entry))) r ⌝ }
+{
+    if !is_agreed(m, n, 5) {
+        return false;
+    }
+    if !is_agreed(m, n, 7) {
+        return false;
+    }
+    if !is_agreed(m, n, 8) {
+        return false;
+    }
+    is_agreed(m, n, 9)
+}
+
+// The sum of the numbers of line k, one of 64 to 70; undefined where either is.
+fn sum_on(m: &[u8], n: &[u8], k: usize) -> Number
+    requires { ⌜ Headers (now m) (now n) × (64 ≤ k) × (k ≤ 70) ⌝ }
+    ensures { λ r. ⌜ r ≡ added (now (m .entry)) (now (n .entry)) k ⌝ }
+{
+    let FieldPlace::Place(place) = field_place(k) else {
+        return Number::Undefined;
+    };
+    let at = place.start + 32;
+    let w = place.width;
+    if !text::is_value(m, at, w, Kind::Count) {
+        return Number::Undefined;
+    }
+    if !text::is_value(n, at, w, Kind::Count) {
+        return Number::Undefined;
+    }
+    whole((count_at(m, at, w) + count_at(n, at, w)) as usize)
+}
+
+fn sum_fits(m: &[u8], n: &[u8], k: usize) -> bool
+    requires { ⌜ Headers (now m) (now n) × (64 ≤ k) × (k ≤ 70) ⌝ }
+    ensures { λ r. ⌜ r ≡ fitsLine k (number (added (now (m .entry)) (now (n .entry)) k)) ⌝ }
+{
+    let FieldPlace::Place(place) = field_place(k) else {
+        return false;
+    };
+    text::fits_number(false, place.width, sum_on(m, n, k))
+}
+
+// "28 .. also for a sum that doesn't fit its field": each does.
+pub(crate) fn sums_fit(m: &[u8], n: &[u8]) -> bool
+    requires { ⌜ Headers (now m) (now n) ⌝ }
+    ensures { λ r. ⌜ Decides (SumsFit (now (m .entry)) (now (n .entry))) r ⌝ }
+{
+    let mut k: usize = 64;
+    while k < 71 {
+        if !sum_fits(m, n, k) {
+            return false;
+        }
+        k += 1;
+    }
+    true
+}
+
+// "Counts and durations add, `x` absorbing".
+fn set_sums(header: &mut [u8], m: &[u8], n: &[u8])
+    requires { ⌜ (length (now header) ≡ 3307) × Headers (now m) (now n) × SumsFit (now m) (now n) ⌝ }
+    ensures { λ _. ⌜ Adds (now (header .entry)) (now (header .exit)) (sumLines (now (m .entry)) (now (n .entry)) 64 7) ⌝ }
+{
+    let mut k: usize = 71;
+    while 64 < k {
+        k -= 1;
+        set_number(header, k, sum_on(m, n, k));
+    }
+}
+
+// "the end time and the name's end time come from the second".
+fn set_end(header: &mut [u8], m: &[u8], n: &[u8])
+    requires { ⌜ (length (now header) ≡ 3307) × Headers (now m) (now n) ⌝ }
+    ensures { λ _. ⌜ Adds (now (header .entry)) (now (header .exit)) (endLines (now (m .entry)) (now (n .entry))) ⌝ }
+{
+    let mut end = [0u8; 15];
+    copy(n, 780, 15, &mut end, 0);
+    set_value(header, 11, &end);
+    let mut name = [0u8; 67];
+    copy(m, 52, 67, &mut name, 0);
+    copy(n, 84, 15, &mut name, 32);
+    set_value(header, 0, &name);
+}
+
+// The main header of the join of products with the headers m and n.
+pub(crate) fn put_join_header(m: &[u8], n: &[u8], totals: &[usize], size: usize, header: &mut [u8])
+    requires { ⌜ JoinHeaderFor (now m) (now n) (now totals) size (now header) ⌝ }
+    ensures { λ _. ⌜ JoinHeaderIs (now (m .entry)) (now (n .entry)) (now (totals .entry)) size (now (header .exit)) ⌝ }
+{
+    copy(m, 0, 3307, header, 0);
+    set_sums(header, m, n);
+    set_end(header, m, n);
     set_totals(header, totals);
     set_number(header, 28, whole(size));
 }

@@ -37,7 +37,7 @@ pub(crate) fn is_up_to(time: Time, other: Time) -> bool
     }
 }
 
-fn is_after(time: Time, other: Time) -> bool
+pub(crate) fn is_after(time: Time, other: Time) -> bool
     ensures { λ r. ⌜ r ≡ isAfter (compared time other) ⌝ }
 {
     match meter::time::time_order(time, other) {

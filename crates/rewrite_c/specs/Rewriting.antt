@@ -6,7 +6,12 @@ use Rattle.meter.specs.declared.time.Time.{Time}
 use Rattle.told.specs.Told.{Told, writtenSaid}
 use Rattle.parts.specs.Cut.{window}
 use Rattle.rewrite.specs.Cut.{CutIs}
+use Rattle.rewrite.specs.Join.{JoinIs}
 
 -- the cut by the window from t to u: the bytes written, and the room at exit
 abbrev pub CutTold : List ℕ → Time → Time → List ℕ → List ℕ → List ℕ → Type 0
 CutTold a t u room exit numbers = Told (λ (r : Written). CutIs a (window t u) room r exit) writtenSaid numbers
+
+-- the join of two: the bytes written, and the room at exit
+abbrev pub JoinTold : List ℕ → List ℕ → List ℕ → List ℕ → List ℕ → Type 0
+JoinTold a b room exit numbers = Told (λ (r : Written). JoinIs a b room r exit) writtenSaid numbers

@@ -1,7 +1,7 @@
 // New products written from old ones, for C.
 use told::put::put_written;
 ghost use Rattle.told.specs.Given.{isSet, timeGiven};
-ghost use Rattle.rewrite_c.specs.Rewriting.{CutTold};
+ghost use Rattle.rewrite_c.specs.Rewriting.{CutTold, JoinTold};
 
 // The product with only the MDRs whose start lies in the window, at the start of the room: 0, 0, the bytes written, 0.
 #[no_mangle]
@@ -22,4 +22,12 @@ pub extern "C" fn wl_cut(
     let first = told::given::time(first_defined, first_day, first_milli);
     let last = told::given::time(last_defined, last_day, last_milli);
     put_written(answer, rewrite::cut::cut(bytes, first, last, room));
+}
+
+// One product of two that follow each other, at the start of the room: 0, 0, the bytes written, 0.
+#[no_mangle]
+pub extern "C" fn wl_join(first: &[u8], second: &[u8], room: &mut [u8], answer: &mut [u64; 4])
+    ensures { λ _. ⌜ JoinTold (now (first .entry)) (now (second .entry)) (now (room .entry)) (now (room .exit)) (now (answer .exit)) ⌝ }
+{
+    put_written(answer, rewrite::join::join(first, second, room));
 }

@@ -1,6 +1,6 @@
-// Cuts each product of standard input to its window, into rooms of the sizes that are asked, and prints the answers; and `lost` where a
-// room does not hold what the case asks for. A case is 26 bytes, the product, what is to be written and the rooms' sizes
-// (tools/rewrite-cases says which and writes them).
+// Cuts each product of standard input to its window, or joins it with a second one, into rooms of the sizes that are asked, and prints the
+// answers; and `lost` where a room does not hold what the case asks for. A case is 31 bytes, the product, the second one, what is to be
+// written and the rooms' sizes (tools/rewrite-cases says which and writes them).
 use cases::input::byte;
 use cases::input::fitting;
 use cases::input::part;
@@ -54,10 +54,21 @@ fn print_answer(answer: Written) -> usize {
     }
 }
 
-fn cut_into(head: &[u8], bytes: &[u8], text: &[u8], room: &mut [u8]) {
-    let first = time_of(byte(head, 12), word(head, 13, 2), word(head, 15, 4));
-    let last = time_of(byte(head, 19), word(head, 20, 2), word(head, 22, 4));
-    let n = print_answer(rewrite::cut::cut(bytes, first, last, room));
+fn cut_of(head: &[u8], bytes: &[u8], room: &mut [u8]) -> Written {
+    let first = time_of(byte(head, 17), word(head, 18, 2), word(head, 20, 4));
+    let last = time_of(byte(head, 24), word(head, 25, 2), word(head, 27, 4));
+    rewrite::cut::cut(bytes, first, last, room)
+}
+
+fn written_of(head: &[u8], bytes: &[u8], second: &[u8], room: &mut [u8]) -> Written {
+    if byte(head, 16) == 0 {
+        return cut_of(head, bytes, room);
+    }
+    rewrite::join::join(bytes, second, room)
+}
+
+fn write_into(head: &[u8], bytes: &[u8], second: &[u8], text: &[u8], room: &mut [u8]) {
+    let n = print_answer(written_of(head, bytes, second, room));
     if !holds(room, part(text, 0, n)) {
         say(b" lost");
     }
@@ -65,41 +76,43 @@ fn cut_into(head: &[u8], bytes: &[u8], text: &[u8], room: &mut [u8]) {
 }
 
 // The next room.
-fn run_room(head: &[u8], bytes: &[u8], text: &[u8]) {
+fn run_room(head: &[u8], bytes: &[u8], second: &[u8], text: &[u8]) {
     let mut size = [0u8; 4];
     if !read(STDIN_FILENO, &mut size) {
         return;
     }
     let mut room = [FILL; 8192];
     let m = fitting(word(&size, 0, 4) as usize, &room);
-    cut_into(head, bytes, text, &mut room[..m]);
+    write_into(head, bytes, second, text, &mut room[..m]);
 }
 
-fn run_rooms(head: &[u8], bytes: &[u8], text: &[u8]) {
-    let rooms = word(head, 8, 4);
+fn run_rooms(head: &[u8], bytes: &[u8], second: &[u8], text: &[u8]) {
+    let rooms = word(head, 12, 4);
     let mut i: u64 = 0;
     while i < rooms {
-        run_room(head, bytes, text);
+        run_room(head, bytes, second, text);
         i += 1;
     }
 }
 
-fn run_case(head: &[u8], bytes: &mut [u8], text: &mut [u8]) {
+fn run_case(head: &[u8], bytes: &mut [u8], second: &mut [u8], text: &mut [u8]) {
     let n = read_part(STDIN_FILENO, bytes, word(head, 0, 4) as usize);
-    let t = read_part(STDIN_FILENO, text, word(head, 4, 4) as usize);
-    run_rooms(head, &bytes[..n], &text[..t]);
+    let m = read_part(STDIN_FILENO, second, word(head, 4, 4) as usize);
+    let t = read_part(STDIN_FILENO, text, word(head, 8, 4) as usize);
+    run_rooms(head, &bytes[..n], &second[..m], &text[..t]);
 }
 
 fn run_next(head: &[u8]) {
     let mut bytes = [0u8; 8192];
+    let mut second = [0u8; 8192];
     let mut text = [0u8; 8192];
-    run_case(head, &mut bytes, &mut text);
+    run_case(head, &mut bytes, &mut second, &mut text);
 }
 
 fn main() {
     let most: usize = 100000;
     for _ in 0..most {
-        let mut head = [0u8; 26];
+        let mut head = [0u8; 31];
         if !read(STDIN_FILENO, &mut head) {
             return;
         }

@@ -5,10 +5,10 @@ use Rattle.rewrite_cases.proofs.run_rooms.Statement.{statement}
 use Rattle.rewrite_cases.proofs.run_rooms.Tie as tie
 
 abbrev Inv-loop : tie.InvT-loop
-Inv-loop head bytes text rooms i₀ i = i ≤ rooms
+Inv-loop head bytes second text rooms i₀ i = i ≤ rooms
 
 abbrev μ-loop : tie.MeasureT-loop
-μ-loop head bytes text rooms i₀ i = rooms - i
+μ-loop head bytes second text rooms i₀ i = rooms - i
 
 word-requires : tie.Need-word-requires Inv-loop μ-loop
 word-requires c κs = search needs

@@ -1,0 +1,155 @@
+-- THE JOIN'S ANSWERS: no second answer and no second room fit; a refusal leaves the room as it came; what is written is the join, and then what the room
+-- held; and whichever two of three products are joined first, what is written is the same. By cases on the answers. Assumes nothing.
+use Prim.Native.Nat.{ℕ, _+_, _≤_, _<_}
+use native.Mathlib.Omega.{arith}
+use mathlib.Core.Path.{_≡_, refl, sym, ap, subst, _∙_}
+use mathlib.Core.List.{List, _++_}
+use lib.ListN.{length, drop, length-append}
+use Rattle.calendar.specs.declared.Refusal.{Refusal}
+use Rattle.meter.specs.declared.integer.Written.{Written}
+use Rattle.meter.specs.declared.integer.Written.the-variants as W
+use Rattle.judge.specs.Extent.{ExtentIs}
+use Rattle.judge.specs.declared.arrival.Extent.the-variants as X
+use Rattle.demands.specs.Product.{Meets}
+use Rattle.demands.proofs.Accepted.{one-list}
+use Rattle.parts.specs.Parts.{joined, mainOf, recordsAt}
+use Rattle.parts.specs.Join.{joinParts}
+use Rattle.parts.specs.Pass.{Alike, InTime, Joinable, joinSize, IsJoin}
+use Rattle.parts.proofs.Built.{bytes-joined, meets-built}
+use Rattle.parts.proofs.PassLaws.{one-join, pass-product, pass-three}
+use Rattle.rewrite.specs.Cut.{refusedAt}
+use Rattle.rewrite.specs.Join.{PartsJoin, unlike, out-of-time, too-much, no-room, written, JoinIs, first-unfit, first-short, second-unfit, second-short, both}
+use Rattle.rewrite.proofs.Laws.{not-refused, not-part, not-both, one-refusal}
+
+-- ---- NO SECOND ANSWER FITS, of two products
+one-parts : {m n : List ℕ} {rs ss : List (List ℕ)} {room : List ℕ} {r s : Written} {x y : List ℕ} → PartsJoin m n rs ss room r x → PartsJoin m n rs ss room s y → (r ≡ s) × (x ≡ y)
+one-parts (unlike d) (unlike e) = (refl, refl)
+one-parts (unlike d) (out-of-time a t) = absurd (d a)
+one-parts (unlike d) (too-much a t h) = absurd (d a)
+one-parts (unlike d) (no-room a t h l) = absurd (d a)
+one-parts (unlike d) (written c a t h l j) = absurd (d a)
+one-parts (out-of-time a t) (unlike d) = absurd (d a)
+one-parts (out-of-time a t) (out-of-time b u) = (refl, refl)
+one-parts (out-of-time a t) (too-much b u h) = absurd (t u)
+one-parts (out-of-time a t) (no-room b u h l) = absurd (t u)
+one-parts (out-of-time a t) (written c b u h l j) = absurd (t u)
+one-parts (too-much a t h) (unlike d) = absurd (d a)
+one-parts (too-much a t h) (out-of-time b u) = absurd (u t)
+one-parts (too-much a t h) (too-much b u g) = (refl, refl)
+one-parts (too-much a t h) (no-room b u g l) = absurd (h g)
+one-parts (too-much a t h) (written c b u g l j) = absurd (h g)
+one-parts (no-room a t h k) (unlike d) = absurd (d a)
+one-parts (no-room a t h k) (out-of-time b u) = absurd (u t)
+one-parts (no-room a t h k) (too-much b u g) = absurd (g h)
+one-parts (no-room a t h k) (no-room b u g l) = (refl, refl)
+one-parts (no-room a t h k) (written c b u g l j) = absurd (omega arith)
+one-parts (written d a t h k i) (unlike e) = absurd (e a)
+one-parts (written d a t h k i) (out-of-time b u) = absurd (u t)
+one-parts (written d a t h k i) (too-much b u g) = absurd (g h)
+one-parts (written d a t h k i) (no-room b u g l) = absurd (omega arith)
+one-parts {m} {n} {rs} {ss} {room} (written d a t h k i) (written c b u g l j) = (refl, ap (λ (z : List ℕ). z ++ drop (joinSize m rs ss) room) (one-join i j))
+
+-- another proof that the two are products has the same parts
+moved : {a b room : List ℕ} {r : Written} {x : List ℕ} (t t′ : Meets a) (u u′ : Meets b) → PartsJoin (mainOf a) (mainOf b) (recordsAt a (t .list)) (recordsAt b (u .list)) room r x → PartsJoin (mainOf a) (mainOf b) (recordsAt a (t′ .list)) (recordsAt b (u′ .list)) room r x
+moved {a} {b} {room} {r} {x} t t′ u u′ p =
+    subst (λ (l : List ℕ). PartsJoin (mainOf a) (mainOf b) (recordsAt a (t′ .list)) (recordsAt b l) room r x) (one-list u u′)
+    (subst (λ (l : List ℕ). PartsJoin (mainOf a) (mainOf b) (recordsAt a l) (recordsAt b (u .list)) room r x) (one-list t t′) p)
+
+-- ---- NO SECOND ANSWER FITS
+pub unique-join : (a b room : List ℕ) (r s : Written) (x y : List ℕ) → JoinIs a b room r x → JoinIs a b room s y → (r ≡ s) × (x ≡ y)
+unique-join a b room r s x y (first-unfit q g) (first-unfit p h) = (one-refusal q p g h, refl)
+unique-join a b room r s x y (first-unfit q g) (first-short h) = absurd (not-both q g h)
+unique-join a b room r s x y (first-unfit q g) (second-unfit p t h) = absurd (not-refused t q g)
+unique-join a b room r s x y (first-unfit q g) (second-short t h) = absurd (not-refused t q g)
+unique-join a b room r s x y (first-unfit q g) (both t u p) = absurd (not-refused t q g)
+unique-join a b room r s x y (first-short g) (first-unfit p h) = absurd (not-both p h g)
+unique-join a b room r s x y (first-short g) (first-short h) = (refl, refl)
+unique-join a b room r s x y (first-short g) (second-unfit p t h) = absurd (not-part t g)
+unique-join a b room r s x y (first-short g) (second-short t h) = absurd (not-part t g)
+unique-join a b room r s x y (first-short g) (both t u p) = absurd (not-part t g)
+unique-join a b room r s x y (second-unfit q t g) (first-unfit p h) = absurd (not-refused t p h)
+unique-join a b room r s x y (second-unfit q t g) (first-short h) = absurd (not-part t h)
+unique-join a b room r s x y (second-unfit q t g) (second-unfit p u h) = (one-refusal q p g h, refl)
+unique-join a b room r s x y (second-unfit q t g) (second-short u h) = absurd (not-both q g h)
+unique-join a b room r s x y (second-unfit q t g) (both u v p) = absurd (not-refused v q g)
+unique-join a b room r s x y (second-short t g) (first-unfit p h) = absurd (not-refused t p h)
+unique-join a b room r s x y (second-short t g) (first-short h) = absurd (not-part t h)
+unique-join a b room r s x y (second-short t g) (second-unfit p u h) = absurd (not-both p h g)
+unique-join a b room r s x y (second-short t g) (second-short u h) = (refl, refl)
+unique-join a b room r s x y (second-short t g) (both u v p) = absurd (not-part v g)
+unique-join a b room r s x y (both t u p) (first-unfit q h) = absurd (not-refused t q h)
+unique-join a b room r s x y (both t u p) (first-short h) = absurd (not-part t h)
+unique-join a b room r s x y (both t u p) (second-unfit q v h) = absurd (not-refused u q h)
+unique-join a b room r s x y (both t u p) (second-short v h) = absurd (not-part u h)
+unique-join a b room r s x y (both t u p) (both v w q) = one-parts (moved t v u w p) q
+
+-- ---- A REFUSAL LEAVES THE ROOM AS IT CAME
+pub join-refusal-keeps : {a b room exit : List ℕ} (r : Refusal) (s : Written) → s ≡ W.Refused r → JoinIs a b room s exit → exit ≡ room
+join-refusal-keeps r s e (first-unfit q _) = refl
+join-refusal-keeps r s e (first-short _) = refl
+join-refusal-keeps r s e (second-unfit q _ _) = refl
+join-refusal-keeps r s e (second-short _ _) = refl
+join-refusal-keeps r s e (both t u p) = go e p
+  where
+    go : {m n : List ℕ} {rs ss : List (List ℕ)} {room exit : List ℕ} {s : Written} → s ≡ W.Refused r → PartsJoin m n rs ss room s exit → exit ≡ room
+    go e (unlike _) = refl
+    go e (out-of-time _ _) = refl
+    go e (too-much _ _ _) = refl
+    go e (no-room _ _ _ _) = refl
+    go e (written c _ _ _ _ _) = absurd (let z : _≡_ {A = ℕ} 0 1 = cc in omega arith)
+
+-- ---- WHAT IS WRITTEN, of k bytes: the join of the two products, and then what the room held
+pub record JoinResult (a b room : List ℕ) (k : ℕ) (exit : List ℕ) : Type 0 where
+  pub text : List ℕ
+  pub first : Meets a
+  pub second : Meets b
+  pub alike : Alike (mainOf a) (mainOf b) (recordsAt a (first .list)) (recordsAt b (second .list))
+  pub in-time : InTime (recordsAt a (first .list)) (recordsAt b (second .list))
+  pub joinable : Joinable (mainOf a) (mainOf b) (recordsAt a (first .list)) (recordsAt b (second .list))
+  pub join : IsJoin (mainOf a) (mainOf b) (recordsAt a (first .list)) (recordsAt b (second .list)) text
+  pub long : k ≡ joinSize (mainOf a) (recordsAt a (first .list)) (recordsAt b (second .list))
+  pub stands : exit ≡ text ++ drop k room
+
+pub join-written : {a b room exit : List ℕ} (k : ℕ) (s : Written) → s ≡ W.Bytes k → JoinIs a b room s exit → JoinResult a b room k exit
+join-written k s e (first-unfit q _) = absurd (let z : _≡_ {A = ℕ} 0 1 = cc in omega arith)
+join-written k s e (first-short _) = absurd (let z : _≡_ {A = ℕ} 0 1 = cc in omega arith)
+join-written k s e (second-unfit q _ _) = absurd (let z : _≡_ {A = ℕ} 0 1 = cc in omega arith)
+join-written k s e (second-short _ _) = absurd (let z : _≡_ {A = ℕ} 0 1 = cc in omega arith)
+join-written {a} {b} {room} {exit} k s e (both t u p) = go e p
+  where
+    bytes-of : {i j : ℕ} → W.Bytes i ≡ W.Bytes j → i ≡ j
+    bytes-of e = cc
+
+    go : {s : Written} {exit : List ℕ} → s ≡ W.Bytes k → PartsJoin (mainOf a) (mainOf b) (recordsAt a (t .list)) (recordsAt b (u .list)) room s exit → JoinResult a b room k exit
+    go e (unlike _) = absurd (let z : _≡_ {A = ℕ} 0 1 = cc in omega arith)
+    go e (out-of-time _ _) = absurd (let z : _≡_ {A = ℕ} 0 1 = cc in omega arith)
+    go e (too-much _ _ _) = absurd (let z : _≡_ {A = ℕ} 0 1 = cc in omega arith)
+    go e (no-room _ _ _ _) = absurd (let z : _≡_ {A = ℕ} 0 1 = cc in omega arith)
+    go e (written c al ti h l j) =
+        let z : joinSize (mainOf a) (recordsAt a (t .list)) (recordsAt b (u .list)) ≡ k = bytes-of e in
+        record { text = c; first = t; second = u; alike = al; in-time = ti; joinable = h; join = j; long = sym z; stands = ap (λ (i : ℕ). c ++ drop i room) z }
+
+-- a join has as many bytes as its size says
+join-length : {m n c : List ℕ} {rs ss : List (List ℕ)} → IsJoin m n rs ss c → length c ≡ joinSize m rs ss
+join-length {m} {rs = rs} {ss = ss} j = ap length (j .whole) ∙ length-append (j .header) (joined (joinParts m rs ss)) ∙ omega (arith, j .lines .long, bytes-joined (joinParts m rs ss))
+
+-- it meets the format, so that the judges accept it
+pub join-product : {a b room exit : List ℕ} {k : ℕ} (w : JoinResult a b room k exit) → Meets (w .text)
+join-product {a} {b} w = pass-product (meets-built a (w .first)) (meets-built b (w .second)) (w .joinable) (w .join)
+
+-- ---- "Where both ways of joining three products are accepted, the bytes are the same": a with b, and b with c, were written; then that with c, and a with
+-- this. What a way is refused for, the other may not be: the law is of the bytes where neither is
+pub join-three-same :
+    {a b c e₁ e₂ e₃ e₄ x₁ x₂ x₃ x₄ : List ℕ} {i j k l : ℕ} (ab : JoinResult a b e₁ i x₁) (bc : JoinResult b c e₂ j x₂) (left : JoinResult (ab .text) c e₃ k x₃) (right : JoinResult a (bc .text) e₄ l x₄)
+    → (left .text ≡ right .text) × (k ≡ l)
+join-three-same {a} {b} {c} ab bc left right =
+    let A = ab .first in
+    let B = ab .second in
+    let bc-at : IsJoin (mainOf b) (mainOf c) (recordsAt b (B .list)) (recordsAt c (left .second .list)) (bc .text) = subst (λ (z : List ℕ). IsJoin (mainOf b) (mainOf c) (recordsAt b (B .list)) (recordsAt c z) (bc .text)) (one-list (bc .second) (left .second)) (subst (λ (z : List ℕ). IsJoin (mainOf b) (mainOf c) (recordsAt b z) (recordsAt c (bc .second .list)) (bc .text)) (one-list (bc .first) B) (bc .join)) in
+    let bc-can : Joinable (mainOf b) (mainOf c) (recordsAt b (B .list)) (recordsAt c (left .second .list)) = subst (λ (z : List ℕ). Joinable (mainOf b) (mainOf c) (recordsAt b (B .list)) (recordsAt c z)) (one-list (bc .second) (left .second)) (subst (λ (z : List ℕ). Joinable (mainOf b) (mainOf c) (recordsAt b z) (recordsAt c (bc .second .list))) (one-list (bc .first) B) (bc .joinable)) in
+    let r-at : IsJoin (mainOf a) (mainOf (bc .text)) (recordsAt a (A .list)) (recordsAt (bc .text) (right .second .list)) (right .text) = subst (λ (z : List ℕ). IsJoin (mainOf a) (mainOf (bc .text)) (recordsAt a z) (recordsAt (bc .text) (right .second .list)) (right .text)) (one-list (right .first) A) (right .join) in
+    let same = pass-three A B (left .second) (left .first) (right .second) (ab .joinable) (ab .join) bc-can bc-at (left .join) r-at in
+    (same, sized left ∙ ap length same ∙ sym (sized right))
+  where
+    sized : {a b e x : List ℕ} {k : ℕ} (w : JoinResult a b e k x) → k ≡ length (w .text)
+    sized w = w .long ∙ sym (join-length (w .join))

@@ -1,0 +1,58 @@
+-- The sections of a product, from its headers. What a function between two steps asks and promises. Assumes nothing.
+use Prim.Native.Nat.{ℕ, _+_, _≤_, _<_}
+use mathlib.Core.Path.{_≡_}
+use mathlib.Core.List.{List, _++_}
+use lib.ListN.{length}
+use Rattle.meter.specs.declared.time.Time.{Time}
+use Rattle.meter.specs.declared.time.Time.the-variants as T
+use Rattle.demands.specs.Product.{size as sizeOf}
+use Rattle.parts.specs.Parts.{bytes, Follows}
+use Rattle.parts.specs.Only.{only, isIn, isSphr, isGlobal, isVariable, isMdr}
+use Rattle.parts.specs.Pass.{firstDefinedStart, lastDefinedStop}
+use Rattle.parts.specs.Walk.{Walk}
+use Rattle.rewrite.specs.declared.sections.Sections.{Sections}
+
+pub record PartsOf (s p g v : ℕ) (t u : Time) (x : Sections) : Type 0 where
+  pub sphr : x .sphr ≡ s
+  pub ipr : x .ipr ≡ p
+  pub global : x .global ≡ g
+  pub variable : x .variable ≡ v
+  pub start : x .start ≡ t
+  pub stop : x .stop ≡ u
+
+-- WHAT IS FOUND of the records rs
+pub record SectionsAre (rs : List (List ℕ)) (x : Sections) : Type 0 where
+  pub sphr : x .sphr ≡ bytes (only isSphr rs)
+  pub ipr : x .ipr ≡ bytes (only (isIn 3 3) rs)
+  pub global : x .global ≡ bytes (only isGlobal rs)
+  pub variable : x .variable ≡ bytes (only isVariable rs)
+  pub start : x .start ≡ firstDefinedStart rs
+  pub stop : x .stop ≡ lastDefinedStop rs
+
+-- between two records: those before byte i are pre
+pub record Sectioning (a : List ℕ) (i : ℕ) (x : Sections) : Type 0 where
+  pub small : length a ≤ 2147483647
+  pub all : List (List ℕ)
+  pub start : Walk a 3307 all
+  pub order : Follows 1 all
+  pub pre : List (List ℕ)
+  pub rest : List (List ℕ)
+  pub cut : all ≡ pre ++ rest
+  pub walk : Walk a i rest
+  pub below : 3307 + (x .sphr + x .ipr + x .global + x .variable) ≤ i
+  pub found : SectionsAre pre x
+
+-- a turn, at a record of `size` bytes at byte i
+pub record SectionOne (a : List ℕ) (i size : ℕ) (x : Sections) : Type 0 where
+  pub sectioning : Sectioning a i x
+  pub inside : i < length a
+  pub sized : size ≡ sizeOf a i
+
+pub record Sectionable (a : List ℕ) : Type 0 where
+  pub small : length a ≤ 2147483647
+  pub records : List (List ℕ)
+  pub walk : Walk a 3307 records
+  pub order : Follows 1 records
+
+pub record Sectioned (a : List ℕ) (x : Sections) : Type 0 where
+  pub found : (rs : List (List ℕ)) → Walk a 3307 rs → SectionsAre rs x

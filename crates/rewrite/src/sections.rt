@@ -1,0 +1,130 @@
+// The sections of a product: how many bytes each has, and of its MDRs the first defined start and the last defined stop.
+use crate::times::time_at;
+use meter::time::Time;
+use record::header::size_at;
+ghost use mathlib.Core.Path.{_≡_};
+ghost use Prim.Native.Nat.{_+_};
+ghost use Rattle.parts.specs.Pass.{firstOf, lastOf};
+ghost use Rattle.rewrite.specs.Sectioning.{PartsOf, SectionOne, Sectioning, Sectionable, Sectioned};
+
+// The bytes of the SPHR, of the pointers, of the global and of the variable records; what is left are MDRs.
+pub struct Sections {
+    pub sphr: usize,
+    pub ipr: usize,
+    pub global: usize,
+    pub variable: usize,
+    pub start: Time,
+    pub stop: Time,
+}
+
+fn first_of(time: Time, other: Time) -> Time
+    ensures { λ r. ⌜ r ≡ firstOf time other ⌝ }
+{
+    match time {
+        Time::Undefined => other,
+        Time::At { day: _, milli: _ } => time,
+    }
+}
+
+fn last_of(time: Time, other: Time) -> Time
+    ensures { λ r. ⌜ r ≡ lastOf time other ⌝ }
+{
+    match other {
+        Time::Undefined => time,
+        Time::At { day: _, milli: _ } => other,
+    }
+}
+
+fn parts_of(
+    sphr: usize,
+    ipr: usize,
+    global: usize,
+    variable: usize,
+    start: Time,
+    stop: Time,
+) -> Sections
+    ensures { λ r. ⌜ PartsOf sphr ipr global variable start stop r ⌝ }
+{
+    Sections {
+        sphr,
+        ipr,
+        global,
+        variable,
+        start,
+        stop,
+    }
+}
+
+// What is found with the record at `at`.
+fn section_one(s: &[u8], at: usize, size: usize, found: Sections) -> Sections
+    requires { ⌜ SectionOne (now s) at size found ⌝ }
+    ensures { λ r. ⌜ Sectioning (now (s .entry)) (at + size) r ⌝ }
+{
+    let start = found.start;
+    let stop = found.stop;
+    let class = s[at];
+    if class < 3 {
+        return parts_of(
+            found.sphr + size,
+            found.ipr,
+            found.global,
+            found.variable,
+            start,
+            stop,
+        );
+    }
+    if class < 4 {
+        return parts_of(
+            found.sphr,
+            found.ipr + size,
+            found.global,
+            found.variable,
+            start,
+            stop,
+        );
+    }
+    if class < 6 {
+        return parts_of(
+            found.sphr,
+            found.ipr,
+            found.global + size,
+            found.variable,
+            start,
+            stop,
+        );
+    }
+    if class < 8 {
+        return parts_of(
+            found.sphr,
+            found.ipr,
+            found.global,
+            found.variable + size,
+            start,
+            stop,
+        );
+    }
+    let first = first_of(start, time_at(s, at + 8));
+    let last = last_of(stop, time_at(s, at + 14));
+    parts_of(
+        found.sphr,
+        found.ipr,
+        found.global,
+        found.variable,
+        first,
+        last,
+    )
+}
+
+pub(crate) fn sections_of(s: &[u8]) -> Sections
+    requires { ⌜ Sectionable (now s) ⌝ }
+    ensures { λ r. ⌜ Sectioned (now (s .entry)) r ⌝ }
+{
+    let mut found = parts_of(0, 0, 0, 0, Time::Undefined, Time::Undefined);
+    let mut at: usize = 3307;
+    while at < s.len() {
+        let size = size_at(s, at);
+        found = section_one(s, at, size, found);
+        at += size;
+    }
+    found
+}

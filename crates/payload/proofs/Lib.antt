@@ -1,0 +1,5 @@
+pub mod ApartLaws
+pub mod Twins
+pub mod Verdict
+pub mod Fields
+pub mod Watching

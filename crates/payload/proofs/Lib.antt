@@ -1,5 +1,6 @@
 pub mod ApartLaws
 pub mod Twins
+pub mod TableReads
 pub mod Verdict
 pub mod Fields
 pub mod Watching

@@ -114,8 +114,11 @@ in-list (more r _ ts) here h = top refl
 in-list (none e) (on s w) h = absurd (omega (arith, s .room))
 in-list (more r _ ts) (on s w) h = pop (in-list ts w h)
 
+pub in-records : {a b : List ℕ} (t : Twins a b) {y : Site} → Leads a first y → y .at + 20 ≤ declared a → In (y .at) (t .one .list)
+in-records t w h = in-list (t .one .records) w h
+
 pub in-way : {a b : List ℕ} (t : Twins a b) {y : Site} → Leads a first y → y .at + 20 ≤ declared a → In (y .at) (0 ∷ t .one .list)
-in-way t w h = pop (in-list (t .one .records) w h)
+in-way t w h = pop (in-records t w h)
 
 -- ---- THE LAW: "each header field reads the same", of the main header and of each record
 pub apart-header : {a b : List ℕ} (x : Apart a b) (i : ℕ) → In i (0 ∷ x .product .list) → headerAt a i ≡ headerAt b i

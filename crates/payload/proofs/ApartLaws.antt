@@ -34,7 +34,7 @@ spaced {a} (more r _ ts) (top e) (pop g) u = omega (arith, ap (size a) e, starts
 spaced (more r _ ts) (pop h) (top d) u = absurd (omega (arith, starts-from ts h))
 spaced (more r _ ts) (pop h) (pop g) u = spaced ts h g u
 
-ipr-27 : {a : List ℕ} {i p t : ℕ} {l : List ℕ} → Records a i p l → In t l → class a t ≡ 3 → size a t ≡ 27
+pub ipr-27 : {a : List ℕ} {i p t : ℕ} {l : List ℕ} → Records a i p l → In t l → class a t ≡ 3 → size a t ≡ 27
 ipr-27 (none e) h c = absurd (nil h)
 ipr-27 {a} (more r _ ts) (top e) c = ap (size a) e ∙ r .ipr (sym (ap (class a) e) ∙ c)
 ipr-27 (more r _ ts) (pop h) c = ipr-27 ts h c

@@ -4,3 +4,5 @@ pub mod TableReads
 pub mod Verdict
 pub mod Fields
 pub mod Watching
+pub mod Parted
+pub mod Cuts

@@ -62,7 +62,9 @@ enum wl_refusal {
     WL_LISTING_LIMIT = 23,  /* a listing of more than 65,536 bytes; 65536 */
     WL_TOO_MANY_POINTERS = 24, /* a watch was fed a 65th pointer record; its start */
     WL_WINDOW = 25,         /* a window of time is undefined or invalid, or ends before it starts; 0 */
-    WL_RESULT_LIMIT = 28,   /* a product to be written would have over 2,147,483,647 bytes or over 999,999 records; 0 */
+    WL_UNLIKE = 26,         /* two products that cannot be joined: another instrument, type, level or spacecraft, SPHR or global records; 0 */
+    WL_OUT_OF_TIME = 27,    /* the second of two products to be joined starts before the first stops; 0 */
+    WL_RESULT_LIMIT = 28,   /* a product to be written would have over 2,147,483,647 bytes or over 999,999 records, or a sum does not fit its line; 0 */
     WL_UTH_SHORT = 30,      /* a humidity file short of 642 bytes; its length */
     WL_UTH_SEGMENTS = 31,   /* M, its number of segments, is negative; 614 */
     WL_UTH_GRID = 32,       /* a segment's line or column is not 1 to 80; where it stands */
@@ -282,6 +284,15 @@ void wl_listing(const uint8_t *bytes, size_t len, uint8_t *text, size_t room, ui
  * a refusal nothing is written. The result is accepted by wl_finished. It has at most the bytes of the product and 27 for each of its records. */
 void wl_cut(const uint8_t *bytes, size_t len, uint8_t first_defined, uint16_t first_day, uint32_t first_milli, uint8_t last_defined, uint16_t last_day,
             uint32_t last_milli, uint8_t *room, size_t room_len, uint64_t answer[4]);
+
+/* Two products that follow each other joined into one, at the start of the room: 0, 0, the bytes written, 0, what lies beyond kept. The SPHR and the
+ * records of classes 4 and 5 are the first's, which the second has too; then the records of classes 6 and 7 of the first and of the second, and so the
+ * MDRs; one pointer record to the first record of each class, group and subclass that is there; and the first's main header, with the size, the
+ * totals, the degraded counts and the durations (added; undefined where either is), SENSING_END and the end time in PRODUCT_NAME (the second's) set
+ * anew. Or the refusal of the finished judge 1 to 17, of the first and then of the second; 26; 27, where the last defined stop of an MDR of the first
+ * is after the first defined start of one of the second; 28; or 18 with the bytes needed. Of a refusal nothing is written. The result is accepted by
+ * wl_finished. Joining three products one after the other gives the same bytes whichever two are joined first, where neither way is refused. */
+void wl_join(const uint8_t *first, size_t first_len, const uint8_t *second, size_t second_len, uint8_t *room, size_t room_len, uint64_t answer[4]);
 
 /* ---- the humidity archive: Upper Tropospheric Humidity files in OpenMTP form, which are no EPS products. 542 bytes of text, a header of 100, and for
  * each of its M segments 36 bytes and N blocks of 72, N of each segment's own */

@@ -25,8 +25,7 @@ use Rattle.rewrite.specs.declared.plan.Plan.the-variants as P
 use Rattle.rewrite.specs.Table.{Holds, filledTo}
 use Rattle.rewrite.specs.Emitting.{tableOf, pointersFrom}
 use Rattle.rewrite.specs.Lining.{Totals}
-use Rattle.rewrite.specs.Planning.{TotalsOf, withPointers}
-use Rattle.rewrite.specs.Assembling.{Collected, sizeOf, Plannable, Unplanned, big, long, Planned, PlanOf, PlanIs}
+use Rattle.rewrite.specs.Assembling.{TotalsOf, withPointers, Collected, sizeOf, Plannable, Unplanned, big, long, Planned, PlanOf, PlanIs}
 use Rattle.rewrite.proofs.CopyLaws.{sets-append}
 use Rattle.rewrite.proofs.EmitLaws.{pointers-put}
 

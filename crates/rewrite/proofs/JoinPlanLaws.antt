@@ -38,8 +38,7 @@ use Rattle.rewrite.specs.Comparing.{Decides, SameIs}
 use Rattle.parts.proofs.WalkLaws.{walk-first}
 use Rattle.rewrite.specs.Sectioning.{SectionsAre, Sectionable, Sectioned}
 use Rattle.rewrite.specs.Gathering.{Gathered, Stretch, Gatherable, Gathers}
-use Rattle.rewrite.specs.Planning.{TotalsOf}
-use Rattle.rewrite.specs.Assembling.{Collected, sizeOf, Unplanned, big, long, Planned}
+use Rattle.rewrite.specs.Assembling.{TotalsOf, Collected, sizeOf, Unplanned, big, long, Planned}
 use Rattle.rewrite.specs.Cut.{refusedAt}
 use Rattle.rewrite.specs.Join.{PartsJoin, JoinIs, unlike, out-of-time, too-much, no-room, written, both}
 use Rattle.rewrite.specs.Joining.{PutsRecords, Headers, joinLinesBy, JoinHeaderFor, JoinHeaderIs, Two, Sections2, rsOf, ssOf, LikeIs, AlikeIs, Matched, Gathering2, Gathers2, JoinPlanned, PutsJoin}

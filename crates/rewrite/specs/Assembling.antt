@@ -1,9 +1,9 @@
 -- A NEW PRODUCT of a front fs, a pointer to the first of each kind of ks, and ks (`assembled`), from what was gathered of its records: what is known before
 -- a byte of it is written, for the cut and for the join. What a function between two steps asks and promises. Assumes nothing.
-use Prim.Native.Nat.{ℕ, _+_, _≤_, _<_}
+use Prim.Native.Nat.{ℕ, suc, _+_, _≤_, _<_}
 use mathlib.Core.Path.{_≡_}
 use mathlib.Core.List.{List, List·Memᴰ as In}
-use lib.ListN.{length, getD}
+use lib.ListN.{length, getD, set}
 use Rattle.calendar.specs.declared.Refusal.{Refusal}
 use Rattle.demands.specs.Product.{class}
 use Rattle.parts.specs.Parts.{bytes, count}
@@ -13,7 +13,17 @@ use Rattle.parts.specs.Rewritten.{Holdable}
 use Rattle.rewrite.specs.declared.plan.Plan.{Plan}
 use Rattle.rewrite.specs.declared.plan.Plan.the-variants as P
 use Rattle.rewrite.specs.Table.{Holds}
-use Rattle.rewrite.specs.Planning.{TotalsOf}
+
+-- the totals of a product of records ps, and its main header: of all, and of each class
+pub record TotalsOf (ps : List (List ℕ)) (totals : List ℕ) : Type 0 where
+  pub nine : length totals ≡ 9
+  pub all : getD totals 0 0 ≡ suc (length ps)
+  pub main : getD totals 1 0 ≡ 1
+  pub each : (c : ℕ) → 2 ≤ c → c ≤ 8 → getD totals c 0 ≡ count c ps
+
+-- the tally with the total of all records, of main headers and of pointers
+abbrev pub withPointers : List ℕ → ℕ → ℕ → List ℕ
+withPointers tally n k = set (set (set tally 0 (1 + n + k)) 1 1) 3 k
 
 -- what was gathered of fs and ks
 pub record Collected (fs ks : List (List ℕ)) (table tally : List ℕ) (front kept records : ℕ) : Type 0 where

@@ -4,10 +4,10 @@ pub mod Keeping
 pub mod Surveying
 pub mod Lining
 pub mod Cut
-pub mod Planning
 pub mod Comparing
 pub mod Sectioning
 pub mod Gathering
 pub mod Assembling
+pub mod Planning
 pub mod Join
 pub mod Joining

@@ -1,8 +1,9 @@
 // The cut of a product to a window of time (02, request Three).
 use crate::copy::copy;
-use crate::kinds::kinds_in;
 use crate::kinds::put_pointers;
 use crate::lines::put_header;
+use crate::plan::Plan;
+use crate::plan::plan_of;
 use crate::survey::Sums;
 use crate::survey::put_kept;
 use crate::survey::survey;
@@ -13,26 +14,14 @@ use judge::arrival::judge_extent;
 use meter::integer::Written;
 use meter::time::Time;
 ghost use mathlib.Core.Path.{_≡_};
-ghost use Prim.Native.Nat.{_+_, _≤_};
-ghost use lib.ListN.{length};
 ghost use Rattle.parts.specs.Cut.{window};
 ghost use Rattle.rewrite.specs.Cut.{refusedAt, CutIs};
-ghost use Rattle.rewrite.specs.Planning.{withPointers, Planned, PutsCut, Cuttable};
+ghost use Rattle.rewrite.specs.Planning.{CutPlanned, PutsCut, Cuttable};
 
 pub(crate) fn refused(number: u8, place: usize) -> Written
     ensures { λ r. ⌜ r ≡ refusedAt number place ⌝ }
 {
     Written::Refused(Refusal { number, place })
-}
-
-// The totals of the result, where `tally` has those of the records that are carried over.
-fn add_pointers(tally: &mut [usize], records: usize, kinds: usize)
-    requires { ⌜ (length (now tally) ≡ 9) × (records ≤ 2147483647) × (kinds ≤ 20480) ⌝ }
-    ensures { λ r. ⌜ now (tally .exit) ≡ withPointers (now (tally .entry)) records kinds ⌝ }
-{
-    tally[0] = 1 + records + kinds;
-    tally[1] = 1;
-    tally[3] = kinds;
 }
 
 // The result, at the start of a room that is long enough.
@@ -44,15 +33,16 @@ fn put_cut(
     table: &[u32],
     totals: &[usize],
     base: usize,
+    size: usize,
     room: &mut [u8],
 )
-    requires { ⌜ Planned (now s) (window first last) (now table) (now totals) base found (now room) ⌝ }
+    requires { ⌜ CutPlanned (now s) (window first last) (now table) (now totals) base size found (now room) ⌝ }
     ensures { λ r. ⌜ PutsCut (now (s .entry)) (window first last) (now (room .entry)) (now (room .exit)) ⌝ }
 {
     let mut header = [0u8; 3307];
     let start = found.start;
     let stop = found.stop;
-    put_header(s, start, stop, totals, base + found.kept, &mut header);
+    put_header(s, start, stop, totals, size, &mut header);
     copy(&header, 0, 3307, room, 0);
     copy(s, 3307, found.front, room, 3307);
     let to = put_pointers(s, table, base, room, 3307 + found.front);
@@ -67,21 +57,20 @@ fn cut_product(s: &[u8], first: Time, last: Time, room: &mut [u8]) -> Written
     let mut table = [0u32; 20480];
     let mut tally = [0usize; 9];
     let found = survey(s, first, last, &mut table, &mut tally);
-    let kinds = kinds_in(&table);
-    add_pointers(&mut tally, found.records, kinds);
-    let base = 3307 + found.front + 27 * kinds;
-    let size = base + found.kept;
-    if size > 2_147_483_647 {
-        return refused(28, 0);
+    match plan_of(
+        &table,
+        &mut tally,
+        found.front,
+        found.kept,
+        found.records,
+        room.len(),
+    ) {
+        Plan::Refused(r) => Written::Refused(r),
+        Plan::Size { base, size } => {
+            put_cut(s, first, last, found, &table, &tally, base, size, room);
+            Written::Bytes(size)
+        }
     }
-    if tally[0] > 999_999 {
-        return refused(28, 0);
-    }
-    if room.len() < size {
-        return refused(18, size);
-    }
-    put_cut(s, first, last, found, &table, &tally, base, room);
-    Written::Bytes(size)
 }
 
 // The product with only the MDRs whose start lies in the window, at the start of the room.

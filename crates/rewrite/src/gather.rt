@@ -1,4 +1,5 @@
-// Sections that go into a new product one after the other: the place of the first of each kind, and how many records of each class there are.
+// Sections that go into a new product one after the other: the place of the first of each kind, and how many records
+// of each class there are.
 use crate::kinds::note;
 use crate::kinds::slot;
 use crate::kinds::wide;

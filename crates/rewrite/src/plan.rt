@@ -4,8 +4,7 @@ use calendar::Refusal;
 ghost use mathlib.Core.Path.{_≡_};
 ghost use Prim.Native.Nat.{_≤_};
 ghost use lib.ListN.{length};
-ghost use Rattle.rewrite.specs.Planning.{withPointers};
-ghost use Rattle.rewrite.specs.Assembling.{Plannable, PlanIs};
+ghost use Rattle.rewrite.specs.Assembling.{withPointers, Plannable, PlanIs};
 
 // 28 or 18; or where the records after the pointers start, and how many bytes the product has.
 pub enum Plan {
@@ -14,7 +13,7 @@ pub enum Plan {
 }
 
 // The totals of the result, where `tally` has those of the records that are carried over.
-pub(crate) fn add_pointers(tally: &mut [usize], records: usize, kinds: usize)
+fn add_pointers(tally: &mut [usize], records: usize, kinds: usize)
     requires { ⌜ (length (now tally) ≡ 9) × (records ≤ 1099511627776) × (kinds ≤ 20480) ⌝ }
     ensures { λ r. ⌜ now (tally .exit) ≡ withPointers (now (tally .entry)) records kinds ⌝ }
 {

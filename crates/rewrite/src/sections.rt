@@ -60,49 +60,26 @@ fn section_one(s: &[u8], at: usize, size: usize, found: Sections) -> Sections
     requires { ⌜ SectionOne (now s) at size found ⌝ }
     ensures { λ r. ⌜ Sectioning (now (s .entry)) (at + size) r ⌝ }
 {
-    let start = found.start;
-    let stop = found.stop;
+    let mut next = found;
     let class = s[at];
     if class < 3 {
-        return parts_of(
-            found.sphr + size,
-            found.ipr,
-            found.global,
-            found.variable,
-            start,
-            stop,
-        );
+        next.sphr = found.sphr + size;
+        return next;
     }
     if class < 4 {
-        return parts_of(
-            found.sphr,
-            found.ipr + size,
-            found.global,
-            found.variable,
-            start,
-            stop,
-        );
+        next.ipr = found.ipr + size;
+        return next;
     }
     if class < 6 {
-        return parts_of(
-            found.sphr,
-            found.ipr,
-            found.global + size,
-            found.variable,
-            start,
-            stop,
-        );
+        next.global = found.global + size;
+        return next;
     }
     if class < 8 {
-        return parts_of(
-            found.sphr,
-            found.ipr,
-            found.global,
-            found.variable + size,
-            start,
-            stop,
-        );
+        next.variable = found.variable + size;
+        return next;
     }
+    let start = found.start;
+    let stop = found.stop;
     let first = first_of(start, time_at(s, at + 8));
     let last = last_of(stop, time_at(s, at + 14));
     parts_of(

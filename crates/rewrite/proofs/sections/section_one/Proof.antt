@@ -1,7 +1,7 @@
 -- `rewrite::sections::section_one` meets its contract: each way out is one of the turns of SectionLaws. Assumes nothing.
 use Prim.Native.Nat.{ℕ, _+_, _≤_}
 use native.Mathlib.Omega.{arith}
-use mathlib.Core.Path.{_≡_, ap, _∙_}
+use mathlib.Core.Path.{_≡_, refl, ap, _∙_}
 use lib.ListN.{length}
 use borrow.Author.Needs.{needs}
 use Rattle.meter.specs.declared.time.Time.{Time}
@@ -21,41 +21,41 @@ lead c = turn-lead (S c .pre .sectioning) (S c .pre .inside) (S c .pre .sized)
 low : (c : tie.After-shared-slice-known2) → S c .args .found .sphr + S c .args .found .ipr + S c .args .found .global + S c .args .found .variable + S c .args .size ≤ 2147483647
 low c = let p = S c .pre in omega (arith, p .sectioning .below, p .sectioning .small, turn-most (p .sectioning) (p .inside) (p .sized))
 
-add-parts-of : tie.Need-add-parts-of
-add-parts-of c = omega (arith, low (c .before .before))
+add-next : tie.Need-add-next
+add-next c = omega (arith, low (c .before .before))
 
 returns : tie.Need-returns
-returns c = let t = c .before .before in let p = S (t .before) .pre in turn-sphr (p .sectioning) (p .inside) (p .sized) (c .parts-of .result) (t .if1 .taken) (c .parts-of .ensures)
+returns c = let t = c .before in let p = S (t .before) .pre in turn-sphr (p .sectioning) (p .inside) (p .sized) _ (t .if1 .taken) record { sphr = refl; ipr = refl; global = refl; variable = refl; start = refl; stop = refl }
 
-add-parts-of-2 : tie.Need-add-parts-of-2
-add-parts-of-2 c = omega (arith, low (c .before .before .before))
+add-next-2 : tie.Need-add-next-2
+add-next-2 c = omega (arith, low (c .before .before .before))
 
 returns-2 : tie.Need-returns-2
 returns-2 c =
-    let t = c .before .before in
+    let t = c .before in
     let e = t .before in
     let p = S (e .before) .pre in
-    turn-ipr (p .sectioning) (p .inside) (p .sized) (c .parts-of2 .result) (e .if1 .left) (t .if2 .taken) (c .parts-of2 .ensures)
+    turn-ipr (p .sectioning) (p .inside) (p .sized) _ (e .if1 .left) (t .if2 .taken) record { sphr = refl; ipr = refl; global = refl; variable = refl; start = refl; stop = refl }
 
-add-parts-of-3 : tie.Need-add-parts-of-3
-add-parts-of-3 c = omega (arith, low (c .before .before .before .before))
+add-next-3 : tie.Need-add-next-3
+add-next-3 c = omega (arith, low (c .before .before .before .before))
 
 returns-3 : tie.Need-returns-3
 returns-3 c =
-    let t = c .before .before in
+    let t = c .before in
     let e = t .before in
     let p = S (e .before .before) .pre in
-    turn-global (p .sectioning) (p .inside) (p .sized) (c .parts-of3 .result) (e .if2 .left) (t .if3 .taken) (c .parts-of3 .ensures)
+    turn-global (p .sectioning) (p .inside) (p .sized) _ (e .if2 .left) (t .if3 .taken) record { sphr = refl; ipr = refl; global = refl; variable = refl; start = refl; stop = refl }
 
-add-parts-of-4 : tie.Need-add-parts-of-4
-add-parts-of-4 c = omega (arith, low (c .before .before .before .before .before))
+add-next-4 : tie.Need-add-next-4
+add-next-4 c = omega (arith, low (c .before .before .before .before .before))
 
 returns-4 : tie.Need-returns-4
 returns-4 c =
-    let t = c .before .before in
+    let t = c .before in
     let e = t .before in
     let p = S (e .before .before .before) .pre in
-    turn-variable (p .sectioning) (p .inside) (p .sized) (c .parts-of4 .result) (e .if3 .left) (t .if4 .taken) (c .parts-of4 .ensures)
+    turn-variable (p .sectioning) (p .inside) (p .sized) _ (e .if3 .left) (t .if4 .taken) record { sphr = refl; ipr = refl; global = refl; variable = refl; start = refl; stop = refl }
 
 time-at-requires : tie.Need-time-at-requires
 time-at-requires c κs = let l = lead (c .before .before .before .before) in (omega (arith, l .come), l .start)
@@ -72,8 +72,8 @@ returns-5 c =
     let e = t .before in
     let b = S (e .before .before .before .before) in
     let p = b .pre in
-    let o = c .parts-of5 .ensures in
-    turn-mdr (p .sectioning) (p .inside) (p .sized) (c .parts-of5 .result) (e .if4 .left) record {
+    let o = c .parts-of .ensures in
+    turn-mdr (p .sectioning) (p .inside) (p .sized) (c .parts-of .result) (e .if4 .left) record {
       sphr = o .sphr;
       ipr = o .ipr;
       global = o .global;
@@ -87,17 +87,13 @@ section-one-spec =
     tie.close
     (tie.spec
     (λ c. search needs)
-    add-parts-of
-    (λ c κs. search needs)
+    add-next
     returns
-    add-parts-of-2
-    (λ c κs. search needs)
+    add-next-2
     returns-2
-    add-parts-of-3
-    (λ c κs. search needs)
+    add-next-3
     returns-3
-    add-parts-of-4
-    (λ c κs. search needs)
+    add-next-4
     returns-4
     (λ c. search needs)
     time-at-requires

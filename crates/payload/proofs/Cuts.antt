@@ -110,13 +110,13 @@ same-counts l p = rw (paid-bytes p, paid-length p, paid-count 2 p, paid-count 3 
 
 -- ---- THE CUT
 module _ (m : List ℕ) (w : Window) {rs ss : List (List ℕ)} (p : Paid rs ss) where
-  cut-paid : Paid (cutParts m w rs) (cutParts m w ss)
+  pub cut-paid : Paid (cutParts m w rs) (cutParts m w ss)
   cut-paid = paid-assembled m (paid-only (of-class 2) p) (paid-only (kept-by w) p)
 
   other-same : otherLines m w rs ≡ otherLines m w ss
   other-same = rw (paid-first T.Undefined (paid-only (chosen w) p), paid-last T.Undefined (paid-only (chosen w) p))
 
-  cut-values : cutValues m w rs ≡ cutValues m w ss
+  pub cut-values : cutValues m w rs ≡ cutValues m w ss
   cut-values = ap (λ (l : List Anew). valuesOf l) (same-counts (otherLines m w rs) cut-paid ∙ ap (countLines (cutParts m w ss)) other-same)
 
 pub apart-cut : {a b c d : List ℕ} {w : Window} → Apart a b → Bytes a → (k : IsCut a w c) → Holdable (cutRecords a w (k .product)) → IsCut b w d → Apart c d

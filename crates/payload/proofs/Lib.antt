@@ -6,3 +6,4 @@ pub mod Fields
 pub mod Watching
 pub mod Parted
 pub mod Cuts
+pub mod CutAnswers

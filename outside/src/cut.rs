@@ -15,7 +15,7 @@ const SUBSETTED_LINE: usize = 71;
 pub(crate) const UNDEFINED: u64 = 0xffff_ffff_ffff;
 
 /// Day and millisecond as they stand in six bytes, which order as the times do.
-pub(crate) fn six(bytes: &[u8]) -> u64 {
+fn six(bytes: &[u8]) -> u64 {
     bytes[..6].iter().fold(0, |n, b| n << 8 | *b as u64)
 }
 

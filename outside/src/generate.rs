@@ -642,7 +642,6 @@ pub fn near_limit(rng: &mut Rng, first: &mut Product, second: &mut Product) {
     set_number(&mut second.bytes, line, b);
 }
 
-
 /// The totals set to the classes that the records have.
 fn recount(p: &mut Product) {
     let mut totals = [0; 9];

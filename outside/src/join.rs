@@ -1,8 +1,7 @@
 //! Request Seven: two products that follow each other become one. The judge's own pass over each is told where its sections start, which kinds of
 //! records there are and which times meet; what stays is then copied section by section.
 use crate::cut::{
-    kind, over_limits, put_count, put_line, put_pointers, put_size_and_totals, six, DEGRADED_AND_DURATIONS, IPR_SIZE, KINDS, SENSING_END_LINE,
-    UNDEFINED,
+    kind, over_limits, put_count, put_line, put_pointers, put_size_and_totals, DEGRADED_AND_DURATIONS, IPR_SIZE, KINDS, SENSING_END_LINE, UNDEFINED,
 };
 use crate::fast::{self, be32};
 use crate::lines::{LINES, MAIN_SIZE, STARTS};
@@ -12,61 +11,75 @@ use crate::values::Refusal;
 const LIKE_LINES: [usize; 4] = [5, 7, 8, 9];
 /// A first record of the second product; starts are below it.
 const OF_SECOND: u32 = 1 << 31;
+/// The kinds of class 8 are the last.
+const MDR_KINDS: usize = KINDS / 5 * 4;
 
-/// What the pass over a product leaves. A section starts where those before it end.
-struct Survey<'a> {
+/// The sections of a product, each starting where those before it end, its totals, and the times that meet those of another.
+struct Sections {
     pointers: usize,
     globals: usize,
     variables: usize,
     mdrs: usize,
-    /// The start of the first record of each kind, 0 where there is none: of the first product where it has the kind.
-    firsts: &'a mut [u32],
-    kinds: usize,
-    of: u32,
-    first_start: u64,
-    last_stop: u64,
+    totals: [u32; 9],
+    /// Of the first MDR that has a defined one, and of the last.
+    start: u64,
+    stop: u64,
 }
 
-impl Survey<'_> {
-    fn new(firsts: &mut [u32], of: u32) -> Survey<'_> {
-        let at = MAIN_SIZE;
-        Survey { pointers: at, globals: at, variables: at, mdrs: at, firsts, kinds: 0, of, first_start: UNDEFINED, last_stop: UNDEFINED }
-    }
+/// The start of the first record of each kind, 0 where there is none; of the first product where it has the kind.
+struct Kinds {
+    firsts: Vec<u32>,
+    count: usize,
+}
+
+/// What the judge's pass over a product tells.
+struct Survey<'a> {
+    found: Sections,
+    kinds: &'a mut Kinds,
+    of: u32,
 }
 
 impl fast::Sink for Survey<'_> {
     #[inline(always)]
     fn put(&mut self, start: u64, head: &[u8; 20]) {
-        let class = head[0];
+        let (class, found) = (head[0], &mut self.found);
         if class > 3 {
-            let first = &mut self.firsts[kind(head)];
+            let first = &mut self.kinds.firsts[kind(head)];
             if *first == 0 {
                 *first = self.of | start as u32;
-                self.kinds += 1;
+                self.kinds.count += 1;
             }
         }
         if class == 8 {
-            let (start, stop) = (six(&head[8..]), six(&head[14..]));
-            if self.first_start == UNDEFINED {
-                self.first_start = start;
+            let (start, stop) = fast::times(head);
+            if found.start == UNDEFINED {
+                found.start = start;
             }
             if stop != UNDEFINED {
-                self.last_stop = stop;
+                found.stop = stop;
             }
             return;
         }
         let end = start as usize + be32(head, 4) as usize;
-        self.mdrs = end;
+        found.mdrs = end;
         if class < 6 {
-            self.variables = end;
+            found.variables = end;
         }
         if class < 4 {
-            self.globals = end;
+            found.globals = end;
         }
         if class < 3 {
-            self.pointers = end;
+            found.pointers = end;
         }
     }
+}
+
+/// Judged and surveyed in one pass.
+fn surveyed(bytes: &[u8], kinds: &mut Kinds, of: u32) -> Result<Sections, Refusal> {
+    let found = Sections { pointers: 0, globals: 0, variables: 0, mdrs: 0, totals: [0; 9], start: UNDEFINED, stop: UNDEFINED };
+    let mut survey = Survey { found, kinds, of };
+    let totals = fast::judged(bytes, &mut survey)?.totals;
+    Ok(Sections { totals, ..survey.found })
 }
 
 fn value(bytes: &[u8], line: usize) -> &[u8] {
@@ -109,66 +122,77 @@ fn put_end(main: &mut [u8], second: &[u8]) {
     main[end..end + 15].copy_from_slice(&second[end..end + 15]);
 }
 
-/// The parts one after the other, from `at` on.
-fn put_parts(room: &mut [u8], mut at: usize, parts: &[&[u8]]) {
+fn put_main(main: &mut [u8], size: usize, counts: &[u64; 9], sums: &Sums, second: &[u8]) {
+    put_size_and_totals(main, size, counts);
+    put_sums(main, sums);
+    put_end(main, second);
+}
+
+/// The parts one after the other, which fill the room.
+fn put_parts(room: &mut [u8], parts: [&[u8]; 4]) {
+    let mut at = 0;
     for part in parts {
         room[at..at + part.len()].copy_from_slice(part);
         at += part.len();
     }
+    assert_eq!(at, room.len());
+}
+
+fn alike(first: &[u8], a: &Sections, second: &[u8], b: &Sections) -> bool {
+    LIKE_LINES.iter().all(|k| value(first, *k) == value(second, *k))
+        && first[MAIN_SIZE..a.pointers] == second[MAIN_SIZE..b.pointers]
+        && first[a.globals..a.variables] == second[b.globals..b.variables]
+}
+
+fn out_of_time(a: &Sections, b: &Sections) -> bool {
+    a.stop != UNDEFINED && b.start != UNDEFINED && a.stop > b.start
+}
+
+fn counts(a: &Sections, b: &Sections, kinds: usize) -> [u64; 9] {
+    let [mut counts, more] = [a.totals, b.totals].map(|totals| totals.map(u64::from));
+    counts[0] = 0;
+    counts[3] = kinds as u64;
+    for class in 6..9 {
+        counts[class] += more[class];
+    }
+    counts
 }
 
 /// The bytes written. A refusal writes nothing.
 pub fn join(first: &[u8], second: &[u8], room: &mut [u8]) -> Result<usize, Refusal> {
-    let refused = |number, place| Err(Refusal { number, place: place as u64 });
-    let mut firsts = vec![0; KINDS];
-    let mut a = Survey::new(&mut firsts, 0);
-    let counts = fast::judged(first, &mut a)?.totals;
-    let Survey { pointers, globals, variables, mdrs, mut kinds, last_stop, .. } = a;
-    let mut b = Survey::new(&mut firsts, OF_SECOND);
-    let more = fast::judged(second, &mut b)?.totals;
-    kinds += b.kinds;
-    let like = LIKE_LINES.iter().all(|k| value(first, *k) == value(second, *k));
-    let [sphr, fixed, others] = [&first[MAIN_SIZE..pointers], &first[globals..variables], &second[b.variables..]];
-    if !like || sphr != &second[MAIN_SIZE..b.pointers] || fixed != &second[b.globals..b.variables] {
+    let refused = |number, place| Err(Refusal { number, place });
+    let mut kinds = Kinds { firsts: vec![0; KINDS], count: 0 };
+    let a = surveyed(first, &mut kinds, 0)?;
+    let b = surveyed(second, &mut kinds, OF_SECOND)?;
+    if !alike(first, &a, second, &b) {
         return refused(26, 0);
     }
-    if last_stop != UNDEFINED && b.first_start != UNDEFINED && last_stop > b.first_start {
+    if out_of_time(&a, &b) {
         return refused(27, 0);
     }
     let sums = sums(first, second)?;
-    let iprs = MAIN_SIZE + sphr.len();
-    let before = iprs + IPR_SIZE * kinds;
-    let size = before + first.len() - globals + others.len();
-    let mut totals = counts.map(u64::from);
-    for class in 6..9 {
-        totals[class] += more[class] as u64;
-    }
-    (totals[0], totals[3]) = (0, kinds as u64);
-    if over_limits(size, &totals) {
+    let counts = counts(&a, &b, kinds.count);
+    let before = a.pointers + IPR_SIZE * kinds.count;
+    let size = before + first.len() - a.globals + second.len() - b.variables;
+    if over_limits(size, &counts) {
         return refused(28, 0);
     }
     if room.len() < size {
-        return refused(18, size);
+        return refused(18, size as u64);
     }
-    let (b_variables, b_mdrs) = (b.variables, b.mdrs);
-    let apart = b_mdrs - b_variables;
-    room[..MAIN_SIZE].copy_from_slice(&first[..MAIN_SIZE]);
-    let main = &mut room[..MAIN_SIZE];
-    put_size_and_totals(main, size, &totals);
-    put_sums(main, &sums);
-    put_end(main, second);
-    put_parts(room, MAIN_SIZE, &[sphr]);
-    // Where what came from either product's sections starts in the result.
-    let of_mdrs = |kind: usize| kind >= 4 << 12;
-    put_pointers(&mut room[iprs..before], first, &firsts, |kind, start| {
-        let (second, start) = (start >= OF_SECOND, (start & !OF_SECOND) as usize);
-        match (second, of_mdrs(kind)) {
-            (false, false) => before + start - globals,
-            (false, true) => before + start - globals + apart,
-            (true, false) => before + mdrs - globals + start - b_variables,
-            (true, true) => before + first.len() - globals + start - b_variables,
+    room[..a.pointers].copy_from_slice(&first[..a.pointers]);
+    put_main(&mut room[..MAIN_SIZE], size, &counts, &sums, second);
+    // Global records of the first, variable ones of both, MDRs of both: where each of these four parts starts.
+    let after = [before + a.mdrs - a.globals, before + a.mdrs - a.globals + b.mdrs - b.variables];
+    put_pointers(&mut room[a.pointers..before], first, &kinds.firsts, |kind, start| {
+        let at = (start & !OF_SECOND) as usize;
+        match (start < OF_SECOND, kind < MDR_KINDS) {
+            (true, true) => before + at - a.globals,
+            (false, true) => after[0] + at - b.variables,
+            (true, false) => after[1] + at - a.mdrs,
+            (false, false) => after[1] + first.len() - a.mdrs + at - b.mdrs,
         }
     });
-    put_parts(room, before, &[&first[globals..mdrs], &second[b_variables..b_mdrs], &first[mdrs..], &second[b_mdrs..]]);
+    put_parts(&mut room[before..size], [&first[a.globals..a.mdrs], &second[b.variables..b.mdrs], &first[a.mdrs..], &second[b.mdrs..]]);
     Ok(size)
 }

@@ -229,19 +229,25 @@ fn to_follow_itself(mut p: Product) -> Product {
 }
 
 /// The joins of a product with a copy of itself, and a plain copy of as many bytes as they write.
-fn measure_join(what: &str, p: Product, runs: usize, times: usize) {
-    let p = to_follow_itself(p);
+fn measure_join(what: &str, make: impl Fn() -> Product, runs: usize, times: usize) {
+    if left_out("join") && left_out(what) {
+        return;
+    }
+    let p = to_follow_itself(make());
     let (first, second) = (&p.bytes, &p.bytes.clone());
     let room = &RefCell::new(vec![0; 2 * first.len() + 27 * p.starts.len()]);
     let size = join::join(first, second, &mut room.borrow_mut()).unwrap();
     let result = &room.borrow()[..size].to_vec();
-    println!("join, {what}: {} bytes and as many, {} records each, joined to {size} bytes", first.len(), p.starts.len());
+    println!("{what}: {} bytes and as many, {} records each, joined to {size} bytes", first.len(), p.starts.len());
     let all = rounds(
         runs,
         times,
         vec![
             ("copy", Box::new(|| room.borrow_mut()[..size].copy_from_slice(black_box(result)))),
+            ("verdicts fast", Box::new(|| assert_eq!(fast::verdict(black_box(first)), fast::verdict(black_box(second))))),
             ("join", Box::new(|| assert_eq!(join::join(black_box(first), second, &mut room.borrow_mut()), Ok(size)))),
+            #[cfg(feature = "boundary")]
+            ("verdicts boundary", Box::new(|| assert_eq!(boundary::extent(black_box(first)), boundary::extent(black_box(second))))),
             #[cfg(feature = "boundary")]
             ("join boundary", Box::new(|| assert_eq!(boundary::join_into(black_box(first), second, &mut room.borrow_mut()), Ok(size)))),
         ],
@@ -365,12 +371,10 @@ fn main() {
             measure_cut(if many { "cut, 20,480 kinds" } else { "cut, one kind" }, &p, all, runs);
         }
     }
-    if !left_out("join") {
-        measure_join("16 MiB", even_of(16 << 20, 50_000, 64, false), runs, 1);
-        measure_join("16 MiB, uneven", even_of(16 << 20, 50_000, 64, true), runs, 1);
-        measure_join("half of it global records", half_global(50_000, 335), runs, 1);
-        measure_join("one kind", kinds(20_480, 335, false), runs, 1);
-        measure_join("20,480 kinds", kinds(20_480, 335, true), runs, 1);
-        measure_join("small", large(11, 1, 21, 0, true), runs, 100);
-    }
+    measure_join("join, 16 MiB", || even_of(16 << 20, 50_000, 64, false), runs, 1);
+    measure_join("join, uneven", || even_of(16 << 20, 50_000, 64, true), runs, 1);
+    measure_join("join, half global", || half_global(50_000, 335), runs, 1);
+    measure_join("join, one kind", || kinds(20_480, 335, false), runs, 1);
+    measure_join("join, 20,480 kinds", || kinds(20_480, 335, true), runs, 1);
+    measure_join("join, small", || large(11, 1, 21, 0, true), runs, 100);
 }

@@ -19,7 +19,7 @@ use Rattle.mphr.specs.Layout.{fields, rows, names, nameOf, pad}
 use Rattle.mphr.specs.Lookup.{same, fieldNamed}
 use Rattle.mphr.specs.NameTable.{all}
 use Rattle.mphr.specs.Rows.{headWords, endWords}
-use Rattle.mphr.specs.Quick.{eightAt, byteOf, wordsOf, joined, agrees, lettersOf, begins, ends, placeOf, fieldAt, likelyOf}
+use Rattle.mphr.specs.Quick.{eightAt, byteOf, wordsOf, joined, agrees, lettersOf, begins, placeOf, fieldAt, likelyOf}
 use Rattle.mphr.proofs.AlikeLaws.{eight-alike, clash}
 use Rattle.mphr.proofs.NameLaws.{most, pad-in, at-table, same-refl, same-eq, found, no-name}
 
@@ -215,7 +215,7 @@ module _ (s : List ℕ) (k : ℕ) (h : k < 72) (row : List ℕ) (e : row ≡ wor
               other s (nameOf k) (λ p.
               clash (sym (eq-eqb x (getD row 4 0) (f ∙ ap (λ (l : List ℕ). eightAt l (length l - 8)) p ∙ sym word-4)) ∙ q))
 
--- ---- what is left after each test: by its length, by its letters, or by its place
+-- ---- what is left after each test: by its length, by its first letter, or by its place
 pub too-short : (s : List ℕ) → length s < 9 → 255 ≡ likelyOf s
 unfolding likelyOf
 too-short s g = rw (lt-leb 9 (length s) g)
@@ -229,17 +229,9 @@ module _ (s : List ℕ) (g : 9 ≤ length s) (h : length s ≤ 30) (w : ℕ) (e 
   unfolding likelyOf
   begins-no d = let n : eqb (begins s) 1 ≡ false = ne-eqb (begins s) 1 (λ q. d (rw (e, f) q)) in rw (le-leb 9 (length s) g, le-leb (length s) 30 h, n)
 
-  module _ (b : w / 2 ^ (x % 32) % 2 ≡ 1) (y : ℕ) (k : y ≡ getD s (length s - 1) 0) where
-    yes-begins : eqb (begins s) 1 ≡ true
-    yes-begins = eq-eqb (begins s) 1 (rw (e, f) at b)
-
-    pub ends-no : (w / 2 ^ (32 + y % 32) % 2 ≡ 1 → ⊥) → 255 ≡ likelyOf s
-    unfolding likelyOf
-    ends-no d = let n : eqb (ends s) 1 ≡ false = ne-eqb (ends s) 1 (λ q. d (rw (e, k) q)) in rw (le-leb 9 (length s) g, le-leb (length s) 30 h, yes-begins, n)
-
-    pub at-place : w / 2 ^ (32 + y % 32) % 2 ≡ 1 → fieldAt (placeOf s) ≡ likelyOf s
-    unfolding likelyOf
-    at-place d = let n : eqb (ends s) 1 ≡ true = eq-eqb (ends s) 1 (rw (e, k) at d) in rw (le-leb 9 (length s) g, le-leb (length s) 30 h, yes-begins, n)
+  pub at-place : w / 2 ^ (x % 32) % 2 ≡ 1 → fieldAt (placeOf s) ≡ likelyOf s
+  unfolding likelyOf
+  at-place b = let n : eqb (begins s) 1 ≡ true = eq-eqb (begins s) 1 (rw (e, f) at b) in rw (le-leb 9 (length s) g, le-leb (length s) 30 h, n)
 
 -- ---- THE LOOKUP: a name has its field at its place, and no other name is there
 module _ (s : List ℕ) (k : ℕ) (e : k ≡ likelyOf s) where

@@ -1,4 +1,4 @@
--- What the quick lookup computes: a name's letters, its place and its row (tools/rows writes the three tables from the names). No promise names these: what the
+-- What the quick lookup computes: a name's first letter, its place and its row (tools/rows writes the three tables from the names). No promise names these: what the
 -- lookup answers is said in Lookup.antt alone. Assumes nothing.
 use Prim.Native.Nat.{ℕ, _+_, _-_, _*_, _/_, _%_, _^_}
 use mathlib.Core.Bool.{Bool, true, cond}
@@ -39,17 +39,13 @@ fieldAt p = byteOf (getD fieldWords (p / 8) 0) (p % 8)
 abbrev pub bitOf : ℕ → ℕ → ℕ
 bitOf w j = w / 2 ^ j % 2
 
--- whether a name of so many bytes, 9 to 30, begins and ends as this one does: 1 for yes
+-- whether a name of so many bytes, 9 to 30, begins as this one does: 1 for yes
 abbrev pub lettersOf : List ℕ → ℕ
 lettersOf s = getD letterWords (length s) 0
 
 abbrev pub begins : List ℕ → ℕ
 begins s = bitOf (lettersOf s) (getD s 0 0 % 32)
 
-abbrev pub ends : List ℕ → ℕ
-ends s = bitOf (lettersOf s) (32 + getD s (length s - 1) 0 % 32)
-
 -- the only field that can have the name; 72 or more for none
 unfoldable pub likelyOf : List ℕ → ℕ
-likelyOf s =
-    cond (leb 9 (length s)) (cond (leb (length s) 30) (cond (eqb (begins s) 1) (cond (eqb (ends s) 1) (fieldAt (placeOf s)) 255) 255) 255) 255
+likelyOf s = cond (leb 9 (length s)) (cond (leb (length s) 30) (cond (eqb (begins s) 1) (fieldAt (placeOf s)) 255) 255) 255

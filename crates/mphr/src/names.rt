@@ -58,7 +58,8 @@ fn matches(name: &[u8], k: usize) -> bool
     eight(name, n - 8) == row[4]
 }
 
-// The only field that can have the name; 72 or more for none. Its letters are looked at first: most unknown names go by them.
+// The only field that can have the name; 72 or more for none. Its length and first letter are looked at before its place is computed:
+// most unknown names go by them.
 fn likely(name: &[u8]) -> usize
     ensures { λ r. ⌜ r ≡ likelyOf (now (name .entry)) ⌝ }
 {
@@ -71,9 +72,6 @@ fn likely(name: &[u8]) -> usize
     }
     let letters = letters_of(n);
     if (letters >> (wide(name[0]) % 32)) % 2 != 1 {
-        return 255;
-    }
-    if (letters >> (32 + wide(name[n - 1]) % 32)) % 2 != 1 {
         return 255;
     }
     let last = eight(name, n - 8) % BY_LAST;

@@ -2,7 +2,7 @@
 use mathlib.Core.Path.{_∙_}
 use denote.Ref.{now}
 use borrow.Author.Needs.{needs}
-use Rattle.mphr.proofs.QuickLaws.{too-short, too-long, begins-no, ends-no, at-place}
+use Rattle.mphr.proofs.QuickLaws.{too-short, too-long, begins-no, at-place}
 use Rattle.mphr.proofs.names.likely.Statement.{statement}
 use Rattle.mphr.proofs.names.likely.Tie as tie
 
@@ -21,28 +21,17 @@ returns-3 c =
 
 returns-4 : tie.Need-returns-4
 returns-4 c =
-    let v = c .before in
-    let b = v .before .before in
-    let w = b .before in
-    let l = w .before .before in
-    let n = l .before in
-    ends-no (now (n .before .before .before .args .name)) (n .before .if1 .left) (n .if2 .left) (l .letters-of .result) (l .letters-of .ensures) (w .wide .result) (w .wide .ensures .0) (b .if3 .left) (v .wide2 .result) (v .wide2 .ensures .0) (c .if4 .taken)
-
-returns-5 : tie.Need-returns-5
-returns-5 c =
     let y = c .before in
     let f = y .before in
     let x = f .before in
     let m = x .before .before in
     let t = m .before in
-    let d = t .before in
-    let v = d .before in
-    let b = v .before .before in
+    let b = t .before in
     let w = b .before in
     let l = w .before .before in
     let n = l .before in
-    rw (c .size-of .ensures, y .byte-of .ensures, f .fields-at .ensures, x .wide3 .ensures .0, m .eight2 .ensures, t .eight .ensures)
-    (at-place (now (n .before .before .before .args .name)) (n .before .if1 .left) (n .if2 .left) (l .letters-of .result) (l .letters-of .ensures) (w .wide .result) (w .wide .ensures .0) (b .if3 .left) (v .wide2 .result) (v .wide2 .ensures .0) (d .if4 .left))
+    rw (c .size-of .ensures, y .byte-of .ensures, f .fields-at .ensures, x .wide2 .ensures .0, m .eight2 .ensures, t .eight .ensures)
+    (at-place (now (n .before .before .before .args .name)) (n .before .if1 .left) (n .if2 .left) (l .letters-of .result) (l .letters-of .ensures) (w .wide .result) (w .wide .ensures .0) (b .if3 .left))
 
 pub likely-spec : {M : Type 1} → statement M
 likely-spec =
@@ -56,12 +45,6 @@ likely-spec =
     (λ c. search needs)
     returns-3
     (λ c. search needs)
-    (λ c. search needs)
-    (λ c κs. search needs)
-    (λ c. search needs)
-    (λ c. search needs)
-    returns-4
-    (λ c. search needs)
     (λ c κs. search needs)
     (λ c. search needs)
     (λ c κs. search needs)
@@ -73,4 +56,4 @@ likely-spec =
     (λ c κs. search needs)
     (λ c κs. search needs)
     (λ c κs. search needs)
-    returns-5)
+    returns-4)

@@ -1,24 +1,17 @@
--- Times: what a reader says of a time that is known to be right; and the earlier and the later of two by the test of the code. Assumes nothing.
-use Prim.Native.Nat.{ℕ, _+_, _≤_}
+-- Times: a time by its bits; and the earlier and the later of two by the test of the code. Assumes nothing.
+use Prim.Native.Nat.{ℕ, _+_, _*_, _/_, _%_}
 use mathlib.Core.Path.{_≡_, refl, sym, ap, _∙_}
 use mathlib.Core.Bool.{Bool, true, false}
 use mathlib.Core.List.{List}
-use borrow.Author.Tests.{le-leb}
+use borrow.Author.Tests.{eq-eqb, ne-eqb}
 use native.Mathlib.Omega.{arith}
-use lib.Dec.{leb}
-use lib.ListN.{length}
-use Rattle.calendar.specs.Said.{Said, answer, refusal}
-use Rattle.meter.specs.Time.{isTime, timeAt, timeReadAt, compared}
+use lib.ListN.{getD}
+use Rattle.meter.specs.Integer.{beAt}
+use Rattle.meter.specs.Time.{timeAt, compared}
 use Rattle.meter.specs.declared.time.Time.{Time}
 use Rattle.meter.specs.declared.time.Time.the-variants as T
 use Rattle.record.specs.Times.{isAfter}
 use Rattle.parts.specs.CutHeader.{sooner, later}
-
-pub time-read : (a : List ℕ) (at : ℕ) → at + 6 ≤ length a → isTime (timeAt a at) ≡ true → timeReadAt a at ≡ answer (timeAt a at)
-time-read a at h e = rw (le-leb (at + 6) (length a) h, e)
-
-pub answer-is : (t u : Time) → answer t ≡ answer u → t ≡ u
-answer-is t u e = cc
 
 pub sooner-yes : (t u : Time) → isAfter (compared t u) ≡ true → u ≡ sooner t u
 sooner-yes T.Undefined u h = refl
@@ -35,3 +28,19 @@ later-yes (T.At d m) u h = rw h
 pub later-no : (t u : Time) (d m : ℕ) → t ≡ T.At d m → isAfter (compared u t) ≡ false → t ≡ later t u
 later-no T.Undefined u d m e h = e ∙ absurd (let z : _≡_ {A = ℕ} 0 1 = cc in omega arith)
 later-no (T.At x y) u d m e h = rw h
+
+-- ---- a time by its bits
+pub of-six :
+    (s : List ℕ) (at a b c d e f : ℕ) → a ≡ getD s at 0 → b ≡ getD s (at + 1) 0 → c ≡ getD s (at + 2) 0 → d ≡ getD s (at + 3) 0 → e ≡ getD s (at + 4) 0 → f ≡ getD s (at + 5) 0
+    → ((a * 256 + b) * 65536 + (c * 256 + d)) * 65536 + e * 256 + f ≡ beAt s at 6
+unfolding beAt
+of-six s at a b c d e f p q r t u v =
+    let z : at + 0 ≡ at = omega arith in
+    let y : getD s (at + 0) 0 ≡ getD s at 0 = ap (λ (i : ℕ). getD s i 0) z in
+    omega (arith, y)
+
+pub time-none : (s : List ℕ) (at v : ℕ) → v ≡ beAt s at 6 → v ≡ 0xffff_ffff_ffff → T.Undefined ≡ timeAt s at
+time-none s at v e d = rw (eq-eqb (beAt s at 6) 0xffff_ffff_ffff (sym e ∙ d)) refl
+
+pub time-some : (s : List ℕ) (at v : ℕ) → v ≡ beAt s at 6 → (v ≡ 0xffff_ffff_ffff → ⊥) → T.At (v / 0x1_0000_0000) (v % 0x1_0000_0000) ≡ timeAt s at
+time-some s at v e d = rw (e, ne-eqb (beAt s at 6) 0xffff_ffff_ffff (λ q. d (e ∙ q))) refl

@@ -2,24 +2,44 @@
 use meter::time::Order;
 use meter::time::Time;
 use meter::time::TimeOrder;
-use meter::time::TimeRead;
 ghost use mathlib.Core.Path.{_≡_};
 ghost use mathlib.Core.Bool.{true};
-ghost use Prim.Native.Nat.{_+_, _≤_};
+ghost use Prim.Native.Nat.{_+_, _≤_, _<_};
 ghost use lib.ListN.{length};
+ghost use Rattle.meter.specs.Integer.{beAt};
 ghost use Rattle.meter.specs.Time.{isTime, timeAt, compared};
 ghost use Rattle.record.specs.Times.{isAfter};
 ghost use Rattle.parts.specs.Cut.{isUpTo, window, within};
 ghost use Rattle.parts.specs.CutHeader.{sooner, later};
 
-// A time that is known to be right.
+fn wide(b: u8) -> u64
+    ensures { λ r. ⌜ (r ≡ b) × (r < 256) ⌝ }
+{
+    b as u64
+}
+
+// The number in the 6 bytes from `at` on.
+fn bits_at(s: &[u8], at: usize) -> u64
+    requires { ⌜ at + 6 ≤ length (now s) ⌝ }
+    ensures { λ r. ⌜ (r ≡ beAt (now (s .entry)) at 6) × (r < 281474976710656) ⌝ }
+{
+    let day = wide(s[at]) * 256 + wide(s[at + 1]);
+    let first = wide(s[at + 2]) * 256 + wide(s[at + 3]);
+    (day * 65536 + first) * 65536 + wide(s[at + 4]) * 256 + wide(s[at + 5])
+}
+
+// The time of a product that was judged: what its bits say, with nothing left to test.
 pub(crate) fn time_at(s: &[u8], at: usize) -> Time
     requires { ⌜ (at + 6 ≤ length (now s)) × (isTime (timeAt (now s) at) ≡ true) ⌝ }
     ensures { λ r. ⌜ r ≡ timeAt (now (s .entry)) at ⌝ }
 {
-    match meter::time::read_time(s, at) {
-        TimeRead::Time(time) => time,
-        TimeRead::Refused(_) => Time::Undefined,
+    let bits = bits_at(s, at);
+    if bits == 0xffff_ffff_ffff {
+        return Time::Undefined;
+    }
+    Time::At {
+        day: (bits / 0x1_0000_0000) as u16,
+        milli: (bits % 0x1_0000_0000) as u32,
     }
 }
 

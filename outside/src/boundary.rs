@@ -166,6 +166,25 @@ pub fn cut(bytes: &[u8], first: Option<Time>, last: Option<Time>) -> Result<Vec<
     Ok(room)
 }
 
+/// Two products that follow each other as one, at the start of the room, as so many bytes.
+pub fn join_into(first: &[u8], second: &[u8], room: &mut [u8]) -> Result<usize, Refusal> {
+    form::written(raw::join(first, second, room), room.len())
+}
+
+/// Two products that follow each other as one. It is seldom longer than the two; where it is, they are joined again into the bytes that it needs.
+pub fn join(first: &[u8], second: &[u8]) -> Result<Vec<u8>, Refusal> {
+    let mut room = vec![0; first.len() + second.len()];
+    let written = match join_into(first, second, &mut room) {
+        Err(Refusal { number: 18, place }) => {
+            room.resize(place as usize, 0);
+            join_into(first, second, &mut room)
+        }
+        other => other,
+    };
+    room.truncate(written?);
+    Ok(room)
+}
+
 // ---- the humidity archive
 
 /// Of each block line, column and whether UTH and CSR are there into a place of the one room, and the two, or 0.0, into that of the other.

@@ -5,14 +5,14 @@ use crate::lines::{LINES, MAIN_SIZE, RECORDS_LINE, SIZE_LINE, STARTS};
 use crate::values::{Refusal, Time};
 use crate::{fast, leap};
 
-const IPR_SIZE: usize = 27;
+pub(crate) const IPR_SIZE: usize = 27;
 /// Known groups by subclasses, to a class of 4 to 8.
-const KINDS: usize = 5 * 16 * 256;
+pub(crate) const KINDS: usize = 5 * 16 * 256;
 const SENSING_START_LINE: usize = 10;
-const SENSING_END_LINE: usize = 11;
-const DEGRADED_AND_DURATIONS: std::ops::RangeInclusive<usize> = 64..=70;
+pub(crate) const SENSING_END_LINE: usize = 11;
+pub(crate) const DEGRADED_AND_DURATIONS: std::ops::RangeInclusive<usize> = 64..=70;
 const SUBSETTED_LINE: usize = 71;
-const UNDEFINED: u64 = 0xffff_ffff_ffff;
+pub(crate) const UNDEFINED: u64 = 0xffff_ffff_ffff;
 
 /// Day and millisecond as they stand in six bytes, which order as the times do.
 fn six(bytes: &[u8]) -> u64 {
@@ -26,7 +26,7 @@ fn ends(first: Option<Time>, last: Option<Time>) -> Option<(u64, u64)> {
 }
 
 /// The place of a kind among all that there can be, in their ascending order.
-fn kind(header: &[u8]) -> usize {
+pub(crate) fn kind(header: &[u8]) -> usize {
     let group = match header[1] {
         15 => 14,
         99 => 15,
@@ -103,21 +103,31 @@ fn second_text(time: Option<u64>) -> [u8; 15] {
     text.as_bytes().try_into().unwrap()
 }
 
-fn put_line(main: &mut [u8], line: usize, value: &[u8]) {
+pub(crate) fn put_line(main: &mut [u8], line: usize, value: &[u8]) {
     main[STARTS[line] + 32..][..value.len()].copy_from_slice(value);
 }
 
-fn put_count(main: &mut [u8], line: usize, n: u64) {
+pub(crate) fn put_count(main: &mut [u8], line: usize, n: u64) {
     let width = LINES[line].1;
     put_line(main, line, format!("{n:>width$}").as_bytes());
 }
 
-fn put_main(main: &mut [u8], found: &Survey, size: u64) {
-    put_count(main, SIZE_LINE, size);
-    put_count(main, RECORDS_LINE, found.counts.iter().sum());
+/// Whether a product to be written has more bytes than 4 lets it, or more records than TOTAL_RECORDS can say.
+pub(crate) fn over_limits(size: usize, counts: &[u64; 9]) -> bool {
+    size > 2_147_483_647 || counts.iter().sum::<u64>() > 999_999
+}
+
+/// The size and the nine totals, from the counts of the classes 1 to 8.
+pub(crate) fn put_size_and_totals(main: &mut [u8], size: usize, counts: &[u64; 9]) {
+    put_count(main, SIZE_LINE, size as u64);
+    put_count(main, RECORDS_LINE, counts.iter().sum());
     for class in 1..9 {
-        put_count(main, RECORDS_LINE + class, found.counts[class]);
+        put_count(main, RECORDS_LINE + class, counts[class]);
     }
+}
+
+fn put_main(main: &mut [u8], found: &Survey, size: usize) {
+    put_size_and_totals(main, size, &found.counts);
     let start = second_text((found.counts[8] > 0).then_some(found.earliest));
     let end = second_text(found.latest.checked_sub(1));
     put_line(main, SENSING_START_LINE, &start);
@@ -141,6 +151,14 @@ fn put_pointer(ipr: &mut [u8], main: &[u8], kind: usize, target: usize) {
     };
     ipr[20..23].copy_from_slice(&[4 + (kind / 4096) as u8, group, kind as u8]);
     ipr[23..].copy_from_slice(&(target as u32).to_be_bytes());
+}
+
+/// A pointer for each kind that has a first record (not 0), whose place in the result is made from the number that stands for it.
+pub(crate) fn put_pointers(iprs: &mut [u8], main: &[u8], firsts: &[u32], target: impl Fn(usize, u32) -> usize) {
+    let present = firsts.iter().enumerate().filter(|(_, first)| **first > 0);
+    for (ipr, (kind, first)) in iprs.chunks_exact_mut(IPR_SIZE).zip(present) {
+        put_pointer(ipr, main, kind, target(kind, *first));
+    }
 }
 
 /// The kept records, adjacent ones by one copy.
@@ -170,20 +188,17 @@ pub fn cut(bytes: &[u8], first: Option<Time>, last: Option<Time>, room: &mut [u8
     let pointers = found.counts[3] as usize;
     let before = MAIN_SIZE + found.sphr.len() + IPR_SIZE * pointers;
     let size = before + found.kept_bytes;
-    if size > 2_147_483_647 || found.counts.iter().sum::<u64>() > 999_999 {
+    if over_limits(size, &found.counts) {
         return Err(Refusal { number: 28, place: 0 });
     }
     if room.len() < size {
         return Err(Refusal { number: 18, place: size as u64 });
     }
     room[..MAIN_SIZE].copy_from_slice(&bytes[..MAIN_SIZE]);
-    put_main(&mut room[..MAIN_SIZE], &found, size as u64);
-    let mut at = MAIN_SIZE + found.sphr.len();
-    room[MAIN_SIZE..at].copy_from_slice(&bytes[found.sphr.clone()]);
-    for (kind, first) in found.firsts.iter().enumerate().filter(|(_, first)| **first > 0) {
-        put_pointer(&mut room[at..at + IPR_SIZE], bytes, kind, before + *first as usize - 1);
-        at += IPR_SIZE;
-    }
+    put_main(&mut room[..MAIN_SIZE], &found, size);
+    let iprs = MAIN_SIZE + found.sphr.len();
+    room[MAIN_SIZE..iprs].copy_from_slice(&bytes[found.sphr.clone()]);
+    put_pointers(&mut room[iprs..before], bytes, &found.firsts, |_, first| before + first as usize - 1);
     put_kept(bytes, window, &mut room[before..size]);
     Ok(size)
 }

@@ -282,6 +282,11 @@ pub fn few_kinds(rng: &mut Rng, p: &mut Product) {
     for s in &p.starts[1..] {
         p.bytes[s + 1..s + 3].copy_from_slice(&rng.pick(&kinds));
     }
+    name_targets(p);
+}
+
+/// Each pointer names the class, group and subclass of the record at its target.
+fn name_targets(p: &mut Product) {
     for s in &p.pointers {
         let target = u32_at(&p.bytes, s + 23) as usize;
         p.bytes.copy_within(target..target + 3, s + 20);
@@ -495,26 +500,33 @@ pub fn product(rng: &mut Rng, n: usize) -> (Product, Made) {
     if rng.one_in(4) {
         put_leap_seconds(rng, &mut p);
     }
-    let made = match turn {
+    let made = hurt(rng, &mut p, turn);
+    let made = if made == Made::Valid && shape.rest > 0 { Made::Row(6) } else { made };
+    (p, made)
+}
+
+/// A whole product damaged as it is its turn: those of 0 and from 36 on stay whole.
+pub fn hurt(rng: &mut Rng, p: &mut Product, turn: usize) -> Made {
+    match turn {
         1..=16 => {
-            let k = aim(rng, &p);
-            damage(rng, &mut p, turn, k);
+            let k = aim(rng, p);
+            damage(rng, p, turn, k);
             Made::Row(turn)
         }
         // Two at one record, or at the two ends of it.
         17..=29 => {
-            let k = aim(rng, &p);
+            let k = aim(rng, p);
             let rows = [6, 7, 8, 9, 10, 11, 12, 13, 14, 15];
             let (a, c) = (rng.pick(&rows), rng.pick(&rows));
-            damage(rng, &mut p, a, k);
-            damage(rng, &mut p, c, k);
+            damage(rng, p, a, k);
+            damage(rng, p, c, k);
             Made::Pair(a, c)
         }
         30..=32 => {
             let (a, c) = (1 + rng.below(16), 1 + rng.below(16));
             for row in [a, c] {
-                let k = aim(rng, &p);
-                damage(rng, &mut p, row, k);
+                let k = aim(rng, p);
+                damage(rng, p, row, k);
             }
             Made::Pair(a, c)
         }
@@ -543,10 +555,91 @@ pub fn product(rng: &mut Rng, n: usize) -> (Product, Made) {
             }
             Made::Noise
         }
-        _ if shape.rest > 0 => Made::Row(6),
         _ => Made::Valid,
+    }
+}
+
+/// The records of some classes, as they lie.
+fn section(p: &Product, classes: std::ops::RangeInclusive<u8>) -> std::ops::Range<usize> {
+    let ends = p.starts[1..].iter().copied().chain([p.bytes.len()]);
+    let mut found = p.starts.iter().copied().zip(ends).filter(|(s, _)| classes.contains(&p.bytes[*s]));
+    let Some((start, end)) = found.next() else { return 0..0 };
+    start..found.last().map_or(end, |last| last.1)
+}
+
+/// A product to follow a whole one (request Seven): the same SPHR and global records, and the same four fields that say what it is of. Its first MDR
+/// with a defined start begins about when the last MDR of the one before with a defined stop ends, or at any time.
+pub fn follower(rng: &mut Rng, before: &Product) -> Product {
+    let mut shape = shape(rng);
+    let size = |s: &usize| u32_at(&before.bytes, s + 4) as usize;
+    let of = |class: &u8| before.starts.iter().filter(|s| before.bytes[**s] == *class).collect::<Vec<_>>();
+    shape.sphr = of(&2).first().map(|s| size(s));
+    shape.others.retain(|(class, _)| *class > 5);
+    let globals = before.starts.iter().filter(|s| matches!(before.bytes[**s], 4 | 5)).map(|s| (before.bytes[*s], size(s)));
+    shape.others.splice(0..0, globals);
+    let mut p = build(rng, &shape);
+    if rng.one_in(4) {
+        put_leap_seconds(rng, &mut p);
+    }
+    for classes in [2..=2, 4..=5] {
+        let (from, to) = (section(before, classes.clone()), section(&p, classes));
+        p.bytes[to].copy_from_slice(&before.bytes[from]);
+    }
+    name_targets(&mut p);
+    for line in LIKE_LINES {
+        let place = STARTS[line] + 32..STARTS[line + 1];
+        p.bytes[place.clone()].copy_from_slice(&before.bytes[place]);
+    }
+    if !rng.one_in(8) {
+        put_next_start(rng, before, &mut p);
+    }
+    p
+}
+
+/// INSTRUMENT_ID, PRODUCT_TYPE, PROCESSING_LEVEL and SPACECRAFT_ID.
+const LIKE_LINES: [usize; 4] = [5, 7, 8, 9];
+
+/// The start of the first MDR that has one, at or beside the last defined stop before it, and its stop undefined or no earlier.
+fn put_next_start(rng: &mut Rng, before: &Product, p: &mut Product) {
+    let defined = |bytes: &[u8], at: usize| bytes[at..at + 6] != [0xff; 6];
+    let last = before.starts.iter().rev().find(|s| before.bytes[**s] == 8 && defined(&before.bytes, **s + 14));
+    let first = p.starts.iter().find(|s| p.bytes[**s] == 8 && defined(&p.bytes, **s + 8));
+    let (Some(last), Some(first)) = (last, first) else { return };
+    let day = u16::from_be_bytes(before.bytes[last + 14..last + 16].try_into().unwrap());
+    let milli = u32_at(&before.bytes, last + 16);
+    let start = match rng.below(6) {
+        0 | 1 => Time { day, milli },
+        2 => Time { day, milli: milli.saturating_sub(1) },
+        3 => Time { day, milli: (milli + 1).min(leap::last_milli(day)) },
+        4 => Time { day: day.saturating_sub(1), milli: milli.min(leap::last_milli(day.saturating_sub(1))) },
+        _ => Time { day: day.saturating_add(1), milli: 0 },
     };
-    (p, made)
+    put_cds(&mut p.bytes, first + 8, start);
+    let stop = rng.pick(&[None, Some(start), Some(Time { day: 65_535, milli: 86_399_999 })]);
+    match stop {
+        Some(t) if (t.day, t.milli) >= (start.day, start.milli) => put_cds(&mut p.bytes, first + 14, t),
+        _ => p.bytes[first + 14..first + 20].fill(0xff),
+    }
+}
+
+/// The follower made unlike, or nearly so: a byte of one of the four fields, of another text beside them, or of a record that must be the same.
+pub fn unlike(rng: &mut Rng, p: &mut Product) {
+    let line = rng.pick(&[5, 6, 7, 8, 9, 14]);
+    let places = [STARTS[line] + 32..STARTS[line + 1] - 1, section(p, 2..=2), section(p, 4..=5)];
+    let place = rng.pick(&[0, 1, 2]);
+    let place = if places[place].is_empty() { places[0].clone() } else { places[place].clone() };
+    let at = place.start + rng.below(place.len());
+    p.bytes[at] = if at < MAIN_SIZE { 32 + rng.below(95) as u8 } else { p.bytes[at].wrapping_add(1) };
+}
+
+/// A count or duration of both products on either side of what their sum may be.
+pub fn near_limit(rng: &mut Rng, first: &mut Product, second: &mut Product) {
+    let line = 64 + rng.below(7);
+    let least_over = 10u64.pow(LINES[line].1 as u32);
+    let a = rng.below(least_over as usize) as u64;
+    let b = (least_over - a - rng.pick(&[0, 1, 1, 2])).min(least_over - 1);
+    set_number(&mut first.bytes, line, a);
+    set_number(&mut second.bytes, line, b);
 }
 
 /// The totals set to the classes that the records have.

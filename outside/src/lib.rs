@@ -2,12 +2,14 @@
 pub mod cut;
 pub mod fast;
 pub mod generate;
+pub mod join;
 pub mod json;
 pub mod leap;
 pub mod leaves;
 pub mod lines;
 pub mod lookup;
 pub mod plain;
+pub mod records;
 pub mod seen;
 pub mod uth;
 pub mod values;

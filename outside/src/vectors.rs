@@ -1,5 +1,6 @@
 //! The repository's vectors, unpacked: VECTORS names their folder (tools/outside unpacks them to target/vectors).
 use crate::json::Json;
+use crate::values::Refusal;
 use crate::{Arrival, Finished};
 use std::path::PathBuf;
 
@@ -73,6 +74,20 @@ fn finished(answer: &[Json]) -> Finished {
         "refused" => Finished::Refused { number: answer[1].number() as u64, place: answer[2].number() as u64 },
         "accepted" => Finished::Accepted { count: answer[1].number() as u64 },
         other => panic!("{other}"),
+    }
+}
+
+/// Pieces of bytes, each so many times.
+pub fn pieces(value: &Json) -> Vec<u8> {
+    value.list().iter().flat_map(|p| p.list()[0].hex().repeat(p.list()[1].number() as usize)).collect()
+}
+
+/// What a writer answers: the bytes written, or its refusal.
+pub fn written(value: &Json) -> Result<usize, Refusal> {
+    match (value.list()[0].text(), &value.list()[1..]) {
+        ("written", [bytes]) => Ok(bytes.number() as usize),
+        ("refused", [number, place]) => Err(Refusal { number: number.number() as u64, place: place.number() as u64 }),
+        other => panic!("{other:?}"),
     }
 }
 

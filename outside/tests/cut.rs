@@ -4,9 +4,11 @@ use outside::cut::cut;
 use outside::generate::{product, Product, Rng};
 use outside::json::Json;
 use outside::leaves::read_header;
-use outside::lines::{LINES, MAIN_SIZE, STARTS};
+use outside::lines::{LINES, STARTS};
+use outside::records::{of_classes, records};
 use outside::seen::{cases, Seen};
-use outside::values::{Header, Refusal, Time};
+use outside::values::{Refusal, Time};
+use outside::vectors::{pieces, written};
 use outside::{fast, plain, vectors, Finished};
 
 const KEPT: u8 = 0xa5;
@@ -53,18 +55,6 @@ fn time(value: &Json) -> Option<Time> {
     Some(Time { day: day? as u16, milli: milli? as u32 })
 }
 
-fn pieces(value: &Json) -> Vec<u8> {
-    value.list().iter().flat_map(|p| p.list()[0].hex().repeat(p.list()[1].number() as usize)).collect()
-}
-
-fn answer(value: &Json) -> Written {
-    match (value.list()[0].text(), &value.list()[1..]) {
-        ("written", [bytes]) => Ok(bytes.number() as usize),
-        ("refused", [number, place]) => Err(Refusal { number: number.number() as u64, place: place.number() as u64 }),
-        other => panic!("{other:?}"),
-    }
-}
-
 #[test]
 fn request_vectors() {
     let products = vectors::request_products();
@@ -75,14 +65,14 @@ fn request_vectors() {
         let output = numbered("output").or_else(|| case.get("output_pieces").map(pieces)).unwrap_or_default();
         let window = ["first", "last"].map(|key| time(case.get(key).unwrap()));
         let name = case.get("name").unwrap();
-        let right = answer(case.get("answer").unwrap());
-        let (ours, written) = cut_in(&bytes, window, output.len());
+        let right = written(case.get("answer").unwrap());
+        let (ours, result) = cut_in(&bytes, window, output.len());
         assert_eq!(ours, right, "{name:?}");
-        assert_eq!(written, output, "{name:?}");
+        assert_eq!(result, output, "{name:?}");
         for room in case.get("rooms").unwrap().list() {
-            let (ours, written) = cut_in(&bytes, window, room.list()[0].number() as usize);
-            assert_eq!(ours, answer(&room.list()[1]), "{name:?}");
-            assert!(written.is_empty() || written == output, "{name:?}");
+            let (ours, result) = cut_in(&bytes, window, room.list()[0].number() as usize);
+            assert_eq!(ours, written(&room.list()[1]), "{name:?}");
+            assert!(result.is_empty() || result == output, "{name:?}");
         }
         seen.note(&right, |_| "written");
     }
@@ -115,21 +105,6 @@ fn window(rng: &mut Rng, p: &Product) -> [Option<Time>; 2] {
         ends = [Some(Time { day: 0, milli: 0 }), Some(Time { day: 65_535, milli: 86_399_999 })];
     }
     ends
-}
-
-/// The headers and bytes of a product's records after the main header.
-fn records(bytes: &[u8]) -> Vec<(Header, &[u8])> {
-    let (mut at, mut all) = (MAIN_SIZE, Vec::new());
-    while at < bytes.len() {
-        let header = read_header(bytes, at).unwrap();
-        all.push((header, &bytes[at..at + header.size as usize]));
-        at += header.size as usize;
-    }
-    all
-}
-
-fn of_classes<'a>(all: &[(Header, &'a [u8])], from: u8, to: u8) -> Vec<&'a [u8]> {
-    all.iter().filter(|r| (from..=to).contains(&r.0.class)).map(|r| r.1).collect()
 }
 
 /// What the request says of a result, read off it.

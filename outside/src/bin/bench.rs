@@ -1,9 +1,10 @@
-//! Times of the judges on large products, of the watch and of the cut: medians of runs taken in turn. The finished judges fill the same rows.
-use outside::generate::{build, Product, Rng, Shape, GROUPS};
+//! Times of the judges on large products, of the watch, of the cut and of the join: medians of runs taken in turn. The finished judges fill the same
+//! rows.
+use outside::generate::{build, set_number, Product, Rng, Shape, GROUPS};
 use outside::leaves::read_header;
 use outside::values::Time;
 use outside::watch::Watch;
-use outside::{cut, fast, lookup, uth, Arrival, Finished};
+use outside::{cut, fast, join, lookup, uth, Arrival, Finished};
 use std::cell::RefCell;
 use std::hint::black_box;
 use std::time::Instant;
@@ -20,8 +21,11 @@ fn large(seed: u64, records: usize, size: usize, pointers: usize, sorted: bool) 
 
 /// 32 MiB in 100,000 records, the main header and the pointers among them. The sizes are the same, or differ from each record to the next.
 fn even(pointers: usize, differ: bool) -> Product {
-    let total = 32 << 20;
-    let n = 100_000 - 1 - pointers;
+    even_of(32 << 20, 100_000, pointers, differ)
+}
+
+fn even_of(total: usize, records: usize, pointers: usize, differ: bool) -> Product {
+    let n = records - 1 - pointers;
     let space = total - 3307 - 27 * pointers;
     let mut others: Vec<(u8, usize)> = (0..n).map(|k| (8, space / n + (k < space % n) as usize)).collect();
     if differ {
@@ -55,17 +59,33 @@ impl Series {
 /// A contender: its name, and one judging whose answer it checks itself.
 type Contender<'a> = (&'static str, Box<dyn FnMut() + 'a>);
 
+extern "C" {
+    fn clock_gettime(clock: i32, time: &mut [i64; 2]) -> i32;
+}
+const THREAD_CPUTIME: i32 = 3;
+
+/// Seconds since some moment, or with CPU set those that this thread was on a processor (Linux, 64 bits).
+fn now(from: Instant) -> f64 {
+    if std::env::var_os("CPU").is_none() {
+        return from.elapsed().as_secs_f64();
+    }
+    let mut time = [0; 2];
+    // SAFETY: the place has the layout of a timespec of 64 bits.
+    assert_eq!(unsafe { clock_gettime(THREAD_CPUTIME, &mut time) }, 0);
+    time[0] as f64 + time[1] as f64 / 1e9
+}
+
 /// One round to warm up, then the runs, each contender in its turn. A run judges so many times and is divided by that.
 fn rounds(runs: usize, times: usize, contenders: Vec<Contender>) -> Vec<Series> {
-    let (mut all, mut judges): (Vec<Series>, Vec<_>) =
-        contenders.into_iter().map(|(name, judge)| (Series { name, figures: vec![] }, judge)).unzip();
+    let (mut all, mut judges): (Vec<Series>, Vec<_>) = contenders.into_iter().map(|(name, judge)| (Series { name, figures: vec![] }, judge)).unzip();
+    let start = Instant::now();
     for round in 0..=runs {
         for (series, judge) in all.iter_mut().zip(&mut judges) {
-            let from = Instant::now();
+            let from = now(start);
             for _ in 0..times {
                 judge();
             }
-            let took = from.elapsed().as_secs_f64() * 1e6 / times as f64;
+            let took = (now(start) - from) * 1e6 / times as f64;
             if round > 0 {
                 series.figures.push(took);
             }
@@ -198,6 +218,51 @@ fn measure_cut(what: &str, p: &Product, [first, last]: [Option<Time>; 2], runs: 
     ratio(&all, "cut boundary", "copy");
 }
 
+/// A product that may follow itself: its last MDR ends before every other time, and its counts and durations are small.
+fn to_follow_itself(mut p: Product) -> Product {
+    let last = *p.starts.last().unwrap();
+    p.bytes[last + 8..last + 20].fill(0);
+    for line in 64..=70 {
+        set_number(&mut p.bytes, line, line as u64);
+    }
+    p
+}
+
+/// The joins of a product with a copy of itself, and a plain copy of as many bytes as they write.
+fn measure_join(what: &str, make: impl Fn() -> Product, runs: usize, times: usize) {
+    if left_out("join") && left_out(what) {
+        return;
+    }
+    let p = to_follow_itself(make());
+    let (first, second) = (&p.bytes, &p.bytes.clone());
+    let room = &RefCell::new(vec![0; 2 * first.len() + 27 * p.starts.len()]);
+    let size = join::join(first, second, &mut room.borrow_mut()).unwrap();
+    let result = &room.borrow()[..size].to_vec();
+    println!("{what}: {} bytes and as many, {} records each, joined to {size} bytes", first.len(), p.starts.len());
+    let all = rounds(
+        runs,
+        times,
+        vec![
+            ("copy", Box::new(|| room.borrow_mut()[..size].copy_from_slice(black_box(result)))),
+            ("verdicts fast", Box::new(|| assert_eq!(fast::verdict(black_box(first)), fast::verdict(black_box(second))))),
+            ("join", Box::new(|| assert_eq!(join::join(black_box(first), second, &mut room.borrow_mut()), Ok(size)))),
+            #[cfg(feature = "boundary")]
+            ("verdicts boundary", Box::new(|| assert_eq!(boundary::extent(black_box(first)), boundary::extent(black_box(second))))),
+            #[cfg(feature = "boundary")]
+            ("join boundary", Box::new(|| assert_eq!(boundary::join_into(black_box(first), second, &mut room.borrow_mut()), Ok(size)))),
+        ],
+    );
+    assert!(room.borrow()[..size] == result[..]);
+    ratio(&all, "join boundary", "join");
+    ratio(&all, "join boundary", "copy");
+}
+
+/// Half of the records GEADRs, half MDRs.
+fn half_global(records: usize, size: usize) -> Product {
+    let others = (0..records).map(|k| (if k < records / 2 { 4 } else { 8 }, size)).collect();
+    build(&mut Rng(15), &Shape { first_version: 2, sphr: Some(5000), pointers: 64, others, sorted: true, rest: 0 })
+}
+
 /// Lookups of a sort of names.
 fn measure_lookup(what: &str, names: &[Vec<u8>], runs: usize) {
     println!("lookup, {what}: {} names, a thousand times each (72,000 lookups)", names.len());
@@ -306,4 +371,10 @@ fn main() {
             measure_cut(if many { "cut, 20,480 kinds" } else { "cut, one kind" }, &p, all, runs);
         }
     }
+    measure_join("join, 16 MiB", || even_of(16 << 20, 50_000, 64, false), runs, 1);
+    measure_join("join, uneven", || even_of(16 << 20, 50_000, 64, true), runs, 1);
+    measure_join("join, half global", || half_global(50_000, 335), runs, 1);
+    measure_join("join, one kind", || kinds(20_480, 335, false), runs, 1);
+    measure_join("join, 20,480 kinds", || kinds(20_480, 335, true), runs, 1);
+    measure_join("join, small", || large(11, 1, 21, 0, true), runs, 100);
 }

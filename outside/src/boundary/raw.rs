@@ -24,6 +24,10 @@ extern "C" {
         bytes: *const u8, len: usize, first_defined: u8, first_day: u16, first_milli: u32, last_defined: u8, last_day: u16, last_milli: u32,
         room: *mut u8, room_len: usize, answer: &mut [u64; 4],
     );
+    #[rustfmt::skip]
+    fn wl_join(
+        first: *const u8, first_len: usize, second: *const u8, second_len: usize, room: *mut u8, room_len: usize, answer: &mut [u64; 4],
+    );
 
     #[rustfmt::skip]
     fn wl_uth(
@@ -213,6 +217,13 @@ pub fn cut(bytes: &[u8], first: (u8, u16, u32), last: (u8, u16, u32), room: &mut
     let ((a, b, c), (d, e, f)) = (first, last);
     // SAFETY: as above.
     answered(|answer| unsafe { wl_cut(bytes.as_ptr(), bytes.len(), a, b, c, d, e, f, room.as_mut_ptr(), room.len(), answer) })
+}
+
+pub fn join(first: &[u8], second: &[u8], room: &mut [u8]) -> [u64; 4] {
+    // SAFETY: as above.
+    answered(|answer| unsafe {
+        wl_join(first.as_ptr(), first.len(), second.as_ptr(), second.len(), room.as_mut_ptr(), room.len(), answer)
+    })
 }
 
 pub fn is_date((year, month, day): (u16, u8, u8)) -> [u64; 4] {

@@ -1,10 +1,10 @@
 //! Request Eight: products that differ in payload alone, the bytes beyond the first 20 of records of classes 2 and 4 to 8, get the same answers of
-//! every reader, whole and part by part; a cut of the one is the cut of the other but for payload. With the feature, so it is at the boundary.
-use outside::generate::{build, part, shape, Product, Rng};
+//! every reader, whole and part by part; a cut of the one is the cut of the other but for payload, and so is a join. With the feature, so it is at the boundary.
+use outside::generate::{build, follower, part, product, shape, Product, Rng};
 use outside::leaves::{self, read_header};
 use outside::lines::MAIN_SIZE;
 use outside::seen::cases;
-use outside::values::{Time, Which};
+use outside::values::{Refusal, Time, Which};
 use outside::{plain, Finished};
 
 /// The bytes of each record after the main header, with its class.
@@ -169,4 +169,41 @@ fn generated() {
     }
     println!("{products} products, {changed} bytes of payload changed, no answer moved; of {tried} other bytes {told} moved one");
     assert!(told > tried / 2);
+}
+
+/// A join without its payload, or the refusal.
+fn join_of(first: &[u8], second: &[u8]) -> Result<Vec<u8>, Refusal> {
+    let mut room = vec![0; 2 * (first.len() + second.len())];
+    let answer = outside::join::join(first, second, &mut room).map(|n| blank(&room[..n]));
+    #[cfg(feature = "boundary")]
+    assert_eq!(outside::boundary::join(first, second).map(|bytes| blank(&bytes)), answer);
+    answer
+}
+
+/// 26 compares the SPHR and the global records whole, so their payload is left as it is, but for a few pairs, of which it must tell some.
+#[test]
+fn joins() {
+    let mut rng = Rng(87);
+    let (mut written, mut refused, mut unlike) = (0, 0, 0);
+    for _ in 0..cases(20_000) / 4 {
+        let before = product(&mut rng, 0).0;
+        let (second, first) = (follower(&mut rng, &before).bytes, before.bytes);
+        let right = join_of(&first, &second);
+        let free = |bytes: &[u8]| records(bytes).into_iter().filter(|(class, _)| *class >= 6).flat_map(|(_, r)| r.start + 20..r.end).collect::<Vec<_>>();
+        let mut others = [first.clone(), second.clone()];
+        for bytes in &mut others {
+            for j in free(bytes) {
+                bytes[j] ^= rng.below(256) as u8;
+            }
+        }
+        assert!(join_of(&others[0], &others[1]) == right);
+        written += right.is_ok() as usize;
+        refused += right.is_err() as usize;
+        if let Some(j) = payload(&first).first().filter(|j| !free(&first).contains(j)) {
+            others[0][*j] ^= 1;
+            unlike += (join_of(&others[0], &others[1]) == Err(Refusal { number: 26, place: 0 })) as usize;
+        }
+    }
+    println!("{written} joins written and {refused} refused, before and after alike; {unlike} refused with 26 where a fixed record's payload was changed");
+    assert!(written > refused && unlike > 0);
 }

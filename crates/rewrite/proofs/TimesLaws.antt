@@ -12,6 +12,7 @@ use Rattle.meter.specs.declared.time.Time.{Time}
 use Rattle.meter.specs.declared.time.Time.the-variants as T
 use Rattle.record.specs.Times.{isAfter}
 use Rattle.parts.specs.CutHeader.{sooner, later}
+use Rattle.parts.specs.Pass.{firstOf}
 
 pub sooner-yes : (t u : Time) → isAfter (compared t u) ≡ true → u ≡ sooner t u
 sooner-yes T.Undefined u h = refl
@@ -29,10 +30,13 @@ pub later-no : (t u : Time) (d m : ℕ) → t ≡ T.At d m → isAfter (compared
 later-no T.Undefined u d m e h = e ∙ absurd (let z : _≡_ {A = ℕ} 0 1 = cc in omega arith)
 later-no (T.At x y) u d m e h = rw h
 
+pub none-before : (t u : Time) → t ≡ T.Undefined → u ≡ firstOf t u
+none-before t u e = rw e refl
+
 -- ---- a time by its bits
 pub of-six :
     (s : List ℕ) (at a b c d e f : ℕ) → a ≡ getD s at 0 → b ≡ getD s (at + 1) 0 → c ≡ getD s (at + 2) 0 → d ≡ getD s (at + 3) 0 → e ≡ getD s (at + 4) 0 → f ≡ getD s (at + 5) 0
-    → ((a * 256 + b) * 65536 + (c * 256 + d)) * 65536 + e * 256 + f ≡ beAt s at 6
+    → (a * 256 + b) * 0x1_0000_0000 + (((c * 256 + d) * 256 + e) * 256 + f) ≡ beAt s at 6
 unfolding beAt
 of-six s at a b c d e f p q r t u v =
     let z : at + 0 ≡ at = omega arith in

@@ -3,7 +3,10 @@ use crate::times::time_at;
 use meter::time::Time;
 use record::header::size_at;
 ghost use mathlib.Core.Path.{_≡_};
-ghost use Prim.Native.Nat.{_+_};
+ghost use mathlib.Core.Bool.{true};
+ghost use Prim.Native.Nat.{_+_, _≤_};
+ghost use lib.ListN.{length};
+ghost use Rattle.meter.specs.Time.{isTime, timeAt};
 ghost use Rattle.parts.specs.Pass.{firstOf, lastOf};
 ghost use Rattle.rewrite.specs.Sectioning.{PartsOf, SectionOne, Sectioning, Sectionable, Sectioned};
 
@@ -17,11 +20,13 @@ pub struct Sections {
     pub stop: Time,
 }
 
-fn first_of(time: Time, other: Time) -> Time
-    ensures { λ r. ⌜ r ≡ firstOf time other ⌝ }
+// The first defined start with the record whose start is at `at`: read only where none was found before.
+fn first_start(s: &[u8], at: usize, time: Time) -> Time
+    requires { ⌜ (at + 6 ≤ length (now s)) × (isTime (timeAt (now s) at) ≡ true) ⌝ }
+    ensures { λ r. ⌜ r ≡ firstOf time (timeAt (now (s .entry)) at) ⌝ }
 {
     match time {
-        Time::Undefined => other,
+        Time::Undefined => time_at(s, at),
         Time::At { day: _, milli: _ } => time,
     }
 }
@@ -80,7 +85,7 @@ fn section_one(s: &[u8], at: usize, size: usize, found: Sections) -> Sections
     }
     let start = found.start;
     let stop = found.stop;
-    let first = first_of(start, time_at(s, at + 8));
+    let first = first_start(s, at + 8, start);
     let last = last_of(stop, time_at(s, at + 14));
     parts_of(
         found.sphr,

@@ -12,20 +12,27 @@ ghost use Rattle.record.specs.Times.{isAfter};
 ghost use Rattle.parts.specs.Cut.{isUpTo, window, within};
 ghost use Rattle.parts.specs.CutHeader.{sooner, later};
 
-fn wide(b: u8) -> u64
+fn wide(b: u8) -> u32
     ensures { λ r. ⌜ (r ≡ b) × (r < 256) ⌝ }
 {
-    b as u64
+    b as u32
 }
 
-// The number in the 6 bytes from `at` on.
+fn long(v: u32) -> u64
+    ensures { λ r. ⌜ (r ≡ v) × (r < 4294967296) ⌝ }
+{
+    v as u64
+}
+
+// The number in the 6 bytes from `at` on: two and four of them, each of which is one load.
 fn bits_at(s: &[u8], at: usize) -> u64
     requires { ⌜ at + 6 ≤ length (now s) ⌝ }
     ensures { λ r. ⌜ (r ≡ beAt (now (s .entry)) at 6) × (r < 281474976710656) ⌝ }
 {
     let day = wide(s[at]) * 256 + wide(s[at + 1]);
-    let first = wide(s[at + 2]) * 256 + wide(s[at + 3]);
-    (day * 65536 + first) * 65536 + wide(s[at + 4]) * 256 + wide(s[at + 5])
+    let first = (wide(s[at + 2]) * 256 + wide(s[at + 3])) * 256 + wide(s[at + 4]);
+    let milli = first * 256 + wide(s[at + 5]);
+    long(day) * 0x1_0000_0000 + long(milli)
 }
 
 // The time of a product that was judged: what its bits say, with nothing left to test.

@@ -5,7 +5,7 @@ use mathlib.Core.Path.{_≡_, refl, ap, _∙_}
 use lib.ListN.{length}
 use borrow.Author.Needs.{needs}
 use Rattle.meter.specs.declared.time.Time.{Time}
-use Rattle.parts.specs.Pass.{firstOf, lastOf}
+use Rattle.parts.specs.Pass.{lastOf}
 use Rattle.rewrite.specs.Keeping.{Lead}
 use Rattle.rewrite.proofs.SectionLaws.{turn-lead, turn-most, turn-sphr, turn-ipr, turn-global, turn-variable, turn-mdr}
 use Rattle.rewrite.proofs.sections.section_one.Statement.{statement}
@@ -57,19 +57,18 @@ returns-4 c =
     let p = S (e .before .before .before) .pre in
     turn-variable (p .sectioning) (p .inside) (p .sized) _ (e .if3 .left) (t .if4 .taken) record { sphr = refl; ipr = refl; global = refl; variable = refl; start = refl; stop = refl }
 
-time-at-requires : tie.Need-time-at-requires
-time-at-requires c κs = let l = lead (c .before .before .before .before) in (omega (arith, l .come), l .start)
+first-start-requires : tie.Need-first-start-requires
+first-start-requires c κs = let l = lead (c .before .before .before .before) in (omega (arith, l .come), l .start)
 
-time-at-requires-2 : tie.Need-time-at-requires-2
-time-at-requires-2 c κs = let l = lead (c .before .before .before .before .before .before) in (omega (arith, l .come), l .stop)
+time-at-requires : tie.Need-time-at-requires
+time-at-requires c κs = let l = lead (c .before .before .before .before .before) in (omega (arith, l .come), l .stop)
 
 returns-5 : tie.Need-returns-5
 returns-5 c =
     let l = c .before in
     let u = l .before in
     let f = u .before in
-    let t = f .before in
-    let e = t .before in
+    let e = f .before in
     let b = S (e .before .before .before .before) in
     let p = b .pre in
     let o = c .parts-of .ensures in
@@ -78,8 +77,8 @@ returns-5 c =
       ipr = o .ipr;
       global = o .global;
       variable = o .variable;
-      start = o .start ∙ f .first-of .ensures ∙ ap (firstOf (b .args .found .start)) (t .time-at .ensures);
-      stop = o .stop ∙ l .last-of .ensures ∙ ap (lastOf (b .args .found .stop)) (u .time-at2 .ensures);
+      start = o .start ∙ f .first-start .ensures;
+      stop = o .stop ∙ l .last-of .ensures ∙ ap (lastOf (b .args .found .stop)) (u .time-at .ensures);
     }
 
 pub section-one-spec : {M : Type 1} → statement M
@@ -96,10 +95,9 @@ section-one-spec =
     add-next-4
     returns-4
     (λ c. search needs)
-    time-at-requires
-    (λ c κs. search needs)
+    first-start-requires
     (λ c. search needs)
-    time-at-requires-2
+    time-at-requires
     (λ c κs. search needs)
     (λ c κs. search needs)
     returns-5)

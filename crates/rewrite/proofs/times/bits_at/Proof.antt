@@ -7,13 +7,16 @@ use Rattle.rewrite.proofs.times.bits_at.Tie as tie
 
 returns : tie.Need-returns
 returns c =
-    let f = c .wide6 .ensures in
-    let w5 = c .before .before in
+    let m = c .long2 .ensures in
+    let g = c .before .long .ensures in
+    let w6 = c .before .before in
+    let w5 = w6 .before .before in
     let w4 = w5 .before .before in
     let w3 = w4 .before .before in
     let w2 = w3 .before .before in
     let w1 = w2 .before .before in
-    (of-six (w1 .before .before .before .args .s .now) _ _ _ _ _ _ _ (w1 .wide .ensures .0) (w2 .wide2 .ensures .0) (w3 .wide3 .ensures .0) (w4 .wide4 .ensures .0) (w5 .wide5 .ensures .0) (f .0), omega (arith, w1 .wide .ensures, w2 .wide2 .ensures, w3 .wide3 .ensures, w4 .wide4 .ensures, w5 .wide5 .ensures, f))
+    let z = of-six (w1 .before .before .before .args .s .now) _ _ _ _ _ _ _ (w1 .wide .ensures .0) (w2 .wide2 .ensures .0) (w3 .wide3 .ensures .0) (w4 .wide4 .ensures .0) (w5 .wide5 .ensures .0) (w6 .wide6 .ensures .0) in
+    (omega (arith, z, g .0, m .0), omega (arith, g .0, m, w1 .wide .ensures, w2 .wide2 .ensures))
 
 pub bits-at-spec : {M : Type 1} → statement M
 bits-at-spec =
@@ -37,12 +40,14 @@ bits-at-spec =
     (λ c. search needs)
     (λ c. search needs)
     (λ c. search needs)
-    (λ c. search needs)
-    (λ c. search needs)
     (λ c κs. search needs)
     (λ c. search needs)
     (λ c. search needs)
     (λ c. search needs)
+    (λ c. search needs)
+    (λ c κs. search needs)
+    (λ c. search needs)
+    (λ c κs. search needs)
     (λ c. search needs)
     (λ c κs. search needs)
     (λ c. search needs)

@@ -294,6 +294,14 @@ void wl_cut(const uint8_t *bytes, size_t len, uint8_t first_defined, uint16_t fi
  * wl_finished. Joining three products one after the other gives the same bytes whichever two are joined first, where neither way is refused. */
 void wl_join(const uint8_t *first, size_t first_len, const uint8_t *second, size_t second_len, uint8_t *room, size_t room_len, uint64_t answer[4]);
 
+/* Whether a product is a cut of another: 0, 0, 1, 0 where it is, and 0, 0, 0, the place where it is not. It is one where its MDRs are a run-through of
+ * the original's in order, some left out, none changed or repeated; its SPHR and its records of classes 4 to 7 are the original's, byte for byte and in
+ * order, none missing; and INSTRUMENT_ID, PRODUCT_TYPE, PROCESSING_LEVEL and SPACECRAFT_ID agree byte for byte. Pointers and the other lines are free.
+ * The place of a no is 0 for one of the four lines; else the start of the first record of the cut that cannot be matched, the SPHR and the records of
+ * classes 4 to 7 against the original's next such, each MDR taking the earliest match left; else, where one of the original's is missing, the cut's
+ * length. Or the refusal of the finished judge 1 to 17, of the original and then of the cut. Whatever wl_cut writes is a cut of what it was cut from. */
+void wl_check_cut(const uint8_t *original, size_t len, const uint8_t *cut, size_t cut_len, uint64_t answer[4]);
+
 /* ---- the humidity archive: Upper Tropospheric Humidity files in OpenMTP form, which are no EPS products. 542 bytes of text, a header of 100, and for
  * each of its M segments 36 bytes and N blocks of 72, N of each segment's own */
 

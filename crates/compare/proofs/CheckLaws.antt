@@ -1,0 +1,209 @@
+-- THE CHECK'S ANSWERS, of the bytes: no second answer fits; yes is answered exactly where the bytes are those of a cut; every product is a cut of itself, a
+-- cut of a cut is a cut, and whatever request Three writes gets a yes. By cases on the answers. Assumes nothing.
+use Prim.Native.Nat.{ℕ, _+_, _≤_, _<_}
+use native.Mathlib.Omega.{arith}
+use mathlib.Core.Path.{_≡_, refl, sym, ap, subst, _∙_}
+use mathlib.Core.Bool.{Bool, true, false}
+use mathlib.Core.List.{List}
+use lib.ListN.{length, take}
+use Rattle.calendar.specs.declared.Refusal.{Refusal}
+use Rattle.judge.specs.Extent.{ExtentIs}
+use Rattle.judge.specs.declared.arrival.Extent.{Extent}
+use Rattle.judge.specs.declared.arrival.Extent.the-variants as X
+use Rattle.demands.specs.Product.{Meets}
+use Rattle.demands.proofs.Accept.{complete-covered}
+use Rattle.demands.proofs.Accepted.{meets-complete, unique-extent, one-list}
+use Rattle.parts.specs.Parts.{mainOf, recordsAt, Follows}
+use Rattle.parts.specs.Against.{CutOf, Verdict, alike, unlike, verdict}
+use Rattle.parts.specs.Pass.{FourAgree}
+use Rattle.parts.specs.Cut.{Window}
+use Rattle.parts.specs.Rewritten.{Holdable}
+use Rattle.parts.specs.TownCut.{cutRecords, IsCut, Unnamed}
+use Rattle.parts.proofs.Built.{meets-built}
+use Rattle.parts.proofs.WalkLaws.{walk-first}
+use Rattle.parts.proofs.AgainstLaws.{cut-of}
+use Rattle.parts.proofs.CutHeaderLaws.{Bytes}
+use Rattle.parts.proofs.TownLaws.{town-product, town-records, town-keeps}
+use Rattle.compare.specs.declared.cut.Checked.{Checked}
+use Rattle.compare.specs.declared.cut.Checked.the-variants as C
+use Rattle.compare.specs.declared.walk.Compared.{Compared}
+use Rattle.compare.specs.declared.walk.Compared.the-variants as R
+use Rattle.compare.specs.Comparing.{Decides}
+use Rattle.compare.specs.Walking.{Both, Products, RecordsIs, comparedAs}
+use Rattle.compare.specs.Check.{refusedAt, IsCutOf, PartsCheck, is, other-field, unmatched, CheckIs, original-unfit, original-short, cut-unfit, cut-short, both}
+use Rattle.compare.proofs.CutOfLaws.{verdict-cut, cut-verdict, cut-itself, cut-on}
+
+-- ---- what cannot be together: a product has come whole, so the judge neither refuses it nor waits
+module _ {a : List ℕ} (t : Meets a) where
+  entire : (c : ℕ) × ExtentIs a (X.Entire c)
+  entire = let k = meets-complete t in let v = complete-covered k in (v .0, (k, v .1))
+
+  not-refused : (r : Refusal) → ExtentIs a (X.Refused r) → ⊥
+  not-refused r g = go (unique-extent a (X.Refused r) (X.Entire (entire .0)) g (entire .1))
+    where
+      go : X.Refused r ≡ X.Entire (entire .0) → ⊥
+      go e = let z : _≡_ {A = ℕ} 0 1 = cc in omega arith
+
+  not-part : ExtentIs a X.Part → ⊥
+  not-part g = go (unique-extent a X.Part (X.Entire (entire .0)) g (entire .1))
+    where
+      go : X.Part ≡ X.Entire (entire .0) → ⊥
+      go e = let z : _≡_ {A = ℕ} 0 1 = cc in omega arith
+
+  pub product-long : length (take 3307 a) ≡ 3307
+  product-long = meets-built a t .fits .long
+
+  order : Follows 1 (recordsAt a (t .list))
+  order = meets-built a t .tiles .order
+
+  low : length a ≤ 2147483647
+  low = omega (arith, t .come, t .header .most)
+
+not-both : {a : List ℕ} (r : Refusal) → ExtentIs a (X.Refused r) → ExtentIs a X.Part → ⊥
+not-both {a} r g h = go (unique-extent a (X.Refused r) X.Part g h)
+  where
+    go : X.Refused r ≡ X.Part → ⊥
+    go e = let z : _≡_ {A = ℕ} 0 1 = cc in omega arith
+
+one-refusal : {a : List ℕ} (r s : Refusal) → ExtentIs a (X.Refused r) → ExtentIs a (X.Refused s) → C.Refused r ≡ C.Refused s
+one-refusal {a} r s g h = go (unique-extent a (X.Refused r) (X.Refused s) g h)
+  where
+    go : X.Refused r ≡ X.Refused s → C.Refused r ≡ C.Refused s
+    go e = cc
+
+-- ---- from the code's answers
+pub extent-at : (a : List ℕ) {x y : Extent} → x ≡ y → ExtentIs a x → ExtentIs a y
+extent-at a e c = subst (λ (z : Extent). ExtentIs a z) e c
+
+pub answer-at : {a b : List ℕ} {r s : Checked} → r ≡ s → CheckIs a b s → CheckIs a b r
+answer-at {a} {b} e c = subst (λ (x : Checked). CheckIs a b x) (sym e) c
+
+module _ {a b : List ℕ} (p : Products a b) where
+  pub both-records : Both a b
+  both-records =
+      let v = walk-first a (p .original) in
+      record {
+        small = low (p .original);
+        short = low (p .cut);
+        left = record {
+          cs = recordsAt b (p .cut .list);
+          fs = recordsAt a (p .original .list);
+          ms = recordsAt a (p .original .list);
+          cut = walk-first b (p .cut);
+          fixed = v;
+          mdrs = v;
+        };
+      }
+
+  says : (r : Compared) → RecordsIs a b r → verdict (recordsAt b (p .cut .list)) (recordsAt a (p .original .list)) ≡ comparedAs r
+  says r h = h (recordsAt a (p .original .list)) (recordsAt b (p .cut .list)) (walk-first a (p .original)) (walk-first b (p .cut))
+
+  pub says-field : (FourAgree (mainOf a) (mainOf b) → ⊥) → CheckIs a b (C.Not 0)
+  says-field d = both (p .original) (p .cut) (other-field d)
+
+  module _ (f : FourAgree (mainOf a) (mainOf b)) (r : Compared) (h : RecordsIs a b r) where
+    pub says-is : r ≡ R.Alike → CheckIs a b C.Is
+    says-is e = both (p .original) (p .cut) (is (record { fields = f; records = verdict-cut (recordsAt b (p .cut .list)) (recordsAt a (p .original .list)) (says r h ∙ ap comparedAs e) }))
+
+    pub says-not : (n : ℕ) → r ≡ R.Unlike n → CheckIs a b (C.Not n)
+    says-not n e = both (p .original) (p .cut) (unmatched n f (says r h ∙ ap comparedAs e))
+
+-- ---- NO SECOND ANSWER FITS
+never : (n : ℕ) → unlike n ≡ alike → ⊥
+never n e = let z : _≡_ {A = ℕ} 0 1 = cc in omega arith
+
+one-place : (n k : ℕ) → unlike n ≡ unlike k → C.Not n ≡ C.Not k
+one-place n k e = cc
+
+one-parts : {m n : List ℕ} {rs cs : List (List ℕ)} {r s : Checked} → Follows 1 rs → Follows 1 cs → PartsCheck m n rs cs r → PartsCheck m n rs cs s → r ≡ s
+one-parts f g (is x) (is y) = refl
+one-parts f g (is x) (other-field d) = absurd (d (x .fields))
+one-parts {rs = rs} {cs = cs} f g (is x) (unmatched p d e) = absurd (never p (sym e ∙ cut-verdict cs rs g f (x .records)))
+one-parts f g (other-field d) (is x) = absurd (d (x .fields))
+one-parts f g (other-field d) (other-field e) = refl
+one-parts f g (other-field d) (unmatched p x e) = absurd (d x)
+one-parts {rs = rs} {cs = cs} f g (unmatched p d e) (is x) = absurd (never p (sym e ∙ cut-verdict cs rs g f (x .records)))
+one-parts f g (unmatched p x e) (other-field d) = absurd (d x)
+one-parts f g (unmatched p x e) (unmatched q y d) = one-place p q (sym e ∙ d)
+
+-- another proof that the two are products has the same parts
+moved : {a b : List ℕ} {r : Checked} (t t′ : Meets a) (u u′ : Meets b) → PartsCheck (mainOf a) (mainOf b) (recordsAt a (t .list)) (recordsAt b (u .list)) r → PartsCheck (mainOf a) (mainOf b) (recordsAt a (t′ .list)) (recordsAt b (u′ .list)) r
+moved {a} {b} {r} t t′ u u′ p =
+    subst (λ (l : List ℕ). PartsCheck (mainOf a) (mainOf b) (recordsAt a (t′ .list)) (recordsAt b l) r) (one-list u u′)
+    (subst (λ (l : List ℕ). PartsCheck (mainOf a) (mainOf b) (recordsAt a l) (recordsAt b (u .list)) r) (one-list t t′) p)
+
+pub unique-check : (a b : List ℕ) (r s : Checked) → CheckIs a b r → CheckIs a b s → r ≡ s
+unique-check a b r s (original-unfit q g) (original-unfit p h) = one-refusal q p g h
+unique-check a b r s (original-unfit q g) (original-short h) = absurd (not-both q g h)
+unique-check a b r s (original-unfit q g) (cut-unfit p t h) = absurd (not-refused t q g)
+unique-check a b r s (original-unfit q g) (cut-short t h) = absurd (not-refused t q g)
+unique-check a b r s (original-unfit q g) (both t u p) = absurd (not-refused t q g)
+unique-check a b r s (original-short g) (original-unfit p h) = absurd (not-both p h g)
+unique-check a b r s (original-short g) (original-short h) = refl
+unique-check a b r s (original-short g) (cut-unfit p t h) = absurd (not-part t g)
+unique-check a b r s (original-short g) (cut-short t h) = absurd (not-part t g)
+unique-check a b r s (original-short g) (both t u p) = absurd (not-part t g)
+unique-check a b r s (cut-unfit q t g) (original-unfit p h) = absurd (not-refused t p h)
+unique-check a b r s (cut-unfit q t g) (original-short h) = absurd (not-part t h)
+unique-check a b r s (cut-unfit q t g) (cut-unfit p u h) = one-refusal q p g h
+unique-check a b r s (cut-unfit q t g) (cut-short u h) = absurd (not-both q g h)
+unique-check a b r s (cut-unfit q t g) (both u v p) = absurd (not-refused v q g)
+unique-check a b r s (cut-short t g) (original-unfit p h) = absurd (not-refused t p h)
+unique-check a b r s (cut-short t g) (original-short h) = absurd (not-part t h)
+unique-check a b r s (cut-short t g) (cut-unfit p u h) = absurd (not-both p h g)
+unique-check a b r s (cut-short t g) (cut-short u h) = refl
+unique-check a b r s (cut-short t g) (both u v p) = absurd (not-part v g)
+unique-check a b r s (both t u p) (original-unfit q h) = absurd (not-refused t q h)
+unique-check a b r s (both t u p) (original-short h) = absurd (not-part t h)
+unique-check a b r s (both t u p) (cut-unfit q v h) = absurd (not-refused u q h)
+unique-check a b r s (both t u p) (cut-short v h) = absurd (not-part u h)
+unique-check a b r s (both t u p) (both v w q) = one-parts (order v) (order w) (moved t v u w p) q
+
+-- ---- YES EXACTLY WHERE the second product is a cut of the first
+pub record Cut (a b : List ℕ) : Type 0 where
+  pub original : Meets a
+  pub cut : Meets b
+  pub parts : IsCutOf (mainOf a) (mainOf b) (recordsAt a (original .list)) (recordsAt b (cut .list))
+
+pub cut-is : {a b : List ℕ} → Cut a b → CheckIs a b C.Is
+cut-is c = both (c .original) (c .cut) (is (c .parts))
+
+pub is-cut : {a b : List ℕ} (r : Checked) → r ≡ C.Is → CheckIs a b r → Cut a b
+is-cut r e (original-unfit q g) = absurd (let z : _≡_ {A = ℕ} 0 1 = cc in omega arith)
+is-cut r e (original-short g) = absurd (let z : _≡_ {A = ℕ} 0 1 = cc in omega arith)
+is-cut r e (cut-unfit q t g) = absurd (let z : _≡_ {A = ℕ} 0 1 = cc in omega arith)
+is-cut r e (cut-short t g) = absurd (let z : _≡_ {A = ℕ} 0 1 = cc in omega arith)
+is-cut {a} {b} r e (both t u p) = go e p
+  where
+    go : {r : Checked} → r ≡ C.Is → PartsCheck (mainOf a) (mainOf b) (recordsAt a (t .list)) (recordsAt b (u .list)) r → Cut a b
+    go e (is x) = record { original = t; cut = u; parts = x }
+    go e (other-field d) = absurd (let z : _≡_ {A = ℕ} 0 1 = cc in omega arith)
+    go e (unmatched p f v) = absurd (let z : _≡_ {A = ℕ} 0 1 = cc in omega arith)
+
+-- ---- every product is a cut of itself
+pub itself : {a : List ℕ} → Meets a → CheckIs a a C.Is
+itself {a} t = both t t (is (cut-itself (mainOf a) (recordsAt a (t .list))))
+
+-- ---- a cut of a cut is a cut
+pub cut-of-cut : {a b c : List ℕ} → CheckIs a b C.Is → CheckIs b c C.Is → CheckIs a c C.Is
+cut-of-cut {a} {b} {c} x y =
+    let p = is-cut C.Is refl x in
+    let q = is-cut C.Is refl y in
+    let k : IsCutOf (mainOf b) (mainOf c) (recordsAt b (p .cut .list)) (recordsAt c (q .cut .list)) = subst (λ (l : List ℕ). IsCutOf (mainOf b) (mainOf c) (recordsAt b l) (recordsAt c (q .cut .list))) (one-list (q .original) (p .cut)) (q .parts) in
+    both (p .original) (q .cut) (is (cut-on (p .parts) k))
+
+-- ---- "Whatever request Three writes must get a yes"
+pub three-is : {a b : List ℕ} {w : Window} → Bytes a → (c : IsCut a w b) → Holdable (cutRecords a w (c .product)) → CheckIs a b C.Is
+three-is {a} {b} {w} byte c h =
+    let u = town-product byte c h in
+    let rs = recordsAt a (c .product .list) in
+    let named : (k : ℕ) → 1 ≤ k → k < 10 → Unnamed k = λ k l m. record { low = omega arith; name = λ e. omega arith; start = λ e. omega arith; end = λ e. omega arith; size = λ e. omega arith } in
+    both (c .product) u (is (record {
+      fields = record {
+        instrument = sym (town-keeps byte c h 5 (named 5 (omega arith) (omega arith)));
+        type = sym (town-keeps byte c h 7 (named 7 (omega arith) (omega arith)));
+        level = sym (town-keeps byte c h 8 (named 8 (omega arith) (omega arith)));
+        spacecraft = sym (town-keeps byte c h 9 (named 9 (omega arith) (omega arith)));
+      };
+      records = subst (λ (cs : List (List ℕ)). CutOf cs rs) (sym (town-records byte c h u)) (cut-of (mainOf a) w rs);
+    }))

@@ -1,0 +1,5 @@
+pub mod CompareLaws
+pub mod PlaceLaws
+pub mod StepLaws
+pub mod CutOfLaws
+pub mod CheckLaws

@@ -185,6 +185,15 @@ pub fn join(first: &[u8], second: &[u8]) -> Result<Vec<u8>, Refusal> {
     Ok(room)
 }
 
+/// Whether a product is a cut of another: `None` where it is, else the place that shows that it is not.
+pub fn check_cut(original: &[u8], cut: &[u8]) -> Result<Option<u64>, Refusal> {
+    match form::said(raw::check_cut(original, cut))? {
+        [_, _, 1, 0] => Ok(None),
+        [_, _, 0, place] => Ok(Some(place)),
+        other => panic!("wl_check_cut answered {other:?}"),
+    }
+}
+
 // ---- the humidity archive
 
 /// Of each block line, column and whether UTH and CSR are there into a place of the one room, and the two, or 0.0, into that of the other.

@@ -8,7 +8,7 @@ use crate::lines::{LINES, MAIN_SIZE, STARTS};
 use crate::values::Refusal;
 
 /// INSTRUMENT_ID, PRODUCT_TYPE, PROCESSING_LEVEL and SPACECRAFT_ID.
-const LIKE_LINES: [usize; 4] = [5, 7, 8, 9];
+pub const LIKE_LINES: [usize; 4] = [5, 7, 8, 9];
 /// A first record of the second product; starts are below it.
 const OF_SECOND: u32 = 1 << 31;
 /// The kinds of class 8 are the last.
@@ -82,7 +82,7 @@ fn surveyed(bytes: &[u8], kinds: &mut Kinds, of: u32) -> Result<Sections, Refusa
     Ok(Sections { totals, ..survey.found })
 }
 
-fn value(bytes: &[u8], line: usize) -> &[u8] {
+pub(crate) fn value(bytes: &[u8], line: usize) -> &[u8] {
     &bytes[STARTS[line] + 32..][..LINES[line].1]
 }
 

@@ -1,4 +1,5 @@
 //! An opinion from outside: 01, and of 02 what has been built, read independently. The judges twice, the rest once.
+pub mod check;
 pub mod cut;
 pub mod fast;
 pub mod generate;

@@ -4,7 +4,7 @@ use outside::generate::{build, set_number, Product, Rng, Shape, GROUPS};
 use outside::leaves::read_header;
 use outside::values::Time;
 use outside::watch::Watch;
-use outside::{cut, fast, join, lookup, uth, Arrival, Finished};
+use outside::{check, cut, fast, join, lookup, uth, Arrival, Finished};
 use std::cell::RefCell;
 use std::hint::black_box;
 use std::time::Instant;
@@ -218,6 +218,47 @@ fn measure_cut(what: &str, p: &Product, [first, last]: [Option<Time>; 2], runs: 
     ratio(&all, "cut boundary", "copy");
 }
 
+/// The checks of what request Three writes with the window, which is a cut, or of one whose last MDR has another last byte.
+fn measure_check(what: &str, p: &Product, [first, last]: [Option<Time>; 2], yes: bool, runs: usize) {
+    if left_out("check") && left_out(what) {
+        return;
+    }
+    let original = &p.bytes;
+    let mut room = vec![0; original.len() + 27 * p.starts.len()];
+    let size = cut::cut(original, first, last, &mut room).unwrap();
+    room.truncate(size);
+    if !yes {
+        room[size - 1] ^= 1;
+    }
+    let (cut, right) = (&room, check::check(original, &room));
+    assert_eq!(right == Ok(None), yes);
+    println!("{what}: {} bytes, {} records, against a cut of {size} bytes", original.len(), p.starts.len());
+    let all = rounds(
+        runs,
+        1,
+        vec![
+            ("verdicts fast", Box::new(|| assert!(fast::verdict(black_box(original)).is_ok() && fast::verdict(black_box(cut)).is_ok()))),
+            ("check", Box::new(|| assert_eq!(check::check(black_box(original), cut), right))),
+            #[cfg(feature = "boundary")]
+            ("check boundary", Box::new(|| assert_eq!(boundary::check_cut(black_box(original), cut), right))),
+        ],
+    );
+    ratio(&all, "check boundary", "check");
+}
+
+/// A product whose MDRs all have the same header and differ in their last byte alone, but for one in two that is as the one before.
+fn equal_headers(mdrs: usize, size: usize) -> Product {
+    let mut p = kinds(mdrs, size, false);
+    let head: [u8; 20] = p.bytes[p.starts[1]..][..20].try_into().unwrap();
+    let payload = p.bytes[p.starts[1] + 20..][..size - 20].to_vec();
+    for (k, s) in p.starts[1..].iter().enumerate() {
+        p.bytes[*s..s + 20].copy_from_slice(&head);
+        p.bytes[s + 20..s + size].copy_from_slice(&payload);
+        p.bytes[s + size - 1] = (k / 2) as u8;
+    }
+    p
+}
+
 /// A product that may follow itself: its last MDR ends before every other time, and its counts and durations are small.
 fn to_follow_itself(mut p: Product) -> Product {
     let last = *p.starts.last().unwrap();
@@ -377,4 +418,15 @@ fn main() {
     measure_join("join, one kind", || kinds(20_480, 335, false), runs, 1);
     measure_join("join, 20,480 kinds", || kinds(20_480, 335, true), runs, 1);
     measure_join("join, small", || large(11, 1, 21, 0, true), runs, 100);
+    if !left_out("check") {
+        let all = [Some(Time { day: 0, milli: 0 }), Some(Time { day: 65_535, milli: 86_399_999 })];
+        let p = even(64, false);
+        measure_check("check, half of the MDRs", &p, first_half(&p), true, runs);
+        measure_check("check, all of them", &p, all, true, runs);
+        measure_check("check, the last changed", &p, all, false, runs);
+        let p = even(64, true);
+        measure_check("check, uneven", &p, first_half(&p), true, runs);
+        let p = equal_headers(100_000, 335);
+        measure_check("check, equal headers, the last changed", &p, all, false, runs);
+    }
 }

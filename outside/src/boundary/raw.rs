@@ -28,6 +28,7 @@ extern "C" {
     fn wl_join(
         first: *const u8, first_len: usize, second: *const u8, second_len: usize, room: *mut u8, room_len: usize, answer: &mut [u64; 4],
     );
+    fn wl_check_cut(original: *const u8, len: usize, cut: *const u8, cut_len: usize, answer: &mut [u64; 4]);
 
     #[rustfmt::skip]
     fn wl_uth(
@@ -224,6 +225,11 @@ pub fn join(first: &[u8], second: &[u8], room: &mut [u8]) -> [u64; 4] {
     answered(|answer| unsafe {
         wl_join(first.as_ptr(), first.len(), second.as_ptr(), second.len(), room.as_mut_ptr(), room.len(), answer)
     })
+}
+
+pub fn check_cut(original: &[u8], cut: &[u8]) -> [u64; 4] {
+    // SAFETY: as above.
+    answered(|answer| unsafe { wl_check_cut(original.as_ptr(), original.len(), cut.as_ptr(), cut.len(), answer) })
 }
 
 pub fn is_date((year, month, day): (u16, u8, u8)) -> [u64; 4] {

@@ -3,3 +3,4 @@ pub mod PlaceLaws
 pub mod StepLaws
 pub mod CutOfLaws
 pub mod CheckLaws
+pub mod NoLaws

@@ -3,4 +3,3 @@ pub mod PlaceLaws
 pub mod StepLaws
 pub mod CutOfLaws
 pub mod CheckLaws
-pub mod NoLaws

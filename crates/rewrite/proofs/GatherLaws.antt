@@ -1,5 +1,6 @@
 -- A stretch of records, gathered record by record: what was gathered, with one record more. Assumes nothing.
 use Prim.Native.Nat.{ℕ, suc, _+_, _-_, _≤_, _<_}
+use native.Mathlib.Decide.{ℕ-discrete}
 use native.Mathlib.Omega.{arith}
 use mathlib.Core.Path.{_≡_, refl, sym, ap, subst, _∙_}
 use mathlib.Core.Bool.{Bool, true, false, cond}
@@ -16,7 +17,7 @@ use Rattle.parts.proofs.KindLaws.{place-snoc}
 use Rattle.parts.proofs.Local.{group-at, kind-at}
 use Rattle.parts.proofs.WalkLaws.{Ahead, Next, next, walk-step, ahead-size, ahead-class, one-walk}
 use Rattle.rewrite.specs.Table.{noted, SlotOf, Holds}
-use Rattle.rewrite.specs.Gathering.{Gathered, Stretch, GatherOne, GathersOne, Gatherable, Gathers}
+use Rattle.rewrite.specs.Gathering.{Gathered, Stretch, GatherOne, GathersOne, Gatherable, Gathers, Going}
 use Rattle.rewrite.proofs.TableLaws.{noted-length, noted-place, kind-of}
 use Rattle.rewrite.proofs.SurveyLaws.{bytes-snoc, count-snoc, tally-one, most-one}
 
@@ -60,22 +61,7 @@ one-stretch xs ys s t =
     (λ r n. t .walk .own r (in-front ys (t .rest) r n) .least)
     (one-walk (xs ++ s .rest) (ys ++ t .rest) (s .walk) (t .walk)) (omega (arith, s .end, t .end))
 
--- ---- between two records of a stretch: those before byte at are pre
-pub record Going (a : List ℕ) (from to n : ℕ) (table₀ tally₀ : List ℕ) (k at : ℕ) (table tally : List ℕ) : Type 0 where
-  pub start : Gatherable a from to n table₀ tally₀
-  pub pre : List (List ℕ)
-  pub post : List (List ℕ)
-  pub cut : start .records ≡ pre ++ post
-  pub walk : Walk a at (post ++ start .stretch .rest)
-  pub end : to ≡ at + bytes post
-  pub here : at ≡ from + bytes pre
-  pub many : k ≡ length pre
-  pub few : k ≤ at
-  pub low : (c : ℕ) → c < 9 → getD tally c 0 ≤ n + bytes pre
-  pub long : length table ≡ 20480
-  pub nine : length tally ≡ 9
-  pub got : (ks : List (List ℕ)) → Gathered ks table₀ tally₀ n → Gathered (ks ++ pre) table tally (n + bytes pre)
-
+-- ---- between two records of a stretch
 pub going-first : {a : List ℕ} {from to n : ℕ} {table tally : List ℕ} → Gatherable a from to n table tally → Going a from to n table tally 0 from table tally
 going-first {n = n} {table = table} {tally = tally} s = record {
   start = s;
@@ -199,3 +185,38 @@ going-last {a} {from} {to} {n} {table₀} {tally₀} {k} {at} {table} {tally} m 
     empty : (post rest : List (List ℕ)) → Walk a at (post ++ rest) → bytes post ≡ 0 → post ≡ []
     empty [] rest w z = refl
     empty (r ∷ post) rest w z = absurd (omega (arith, w .own r (top refl) .least))
+
+-- ---- some records of one size, as far as they go
+pub record Alike (a : List ℕ) (from to p : ℕ) (table₀ tally₀ : List ℕ) (z : ℕ) (table tally : List ℕ) (k at : ℕ) : Type 0 where
+  pub on :
+      (from′ n k′ : ℕ) (t y : List ℕ) → p ≡ n + (from - from′) → Going a from′ to n t y k′ from table₀ tally₀
+      → Going a from′ to n t y (k′ + k) at table tally
+  pub least : from ≤ at
+  pub begun : at ≡ from → z ≡ size a at
+
+pub gone-on : {a : List ℕ} {from to p : ℕ} {t y : List ℕ} {z : ℕ} {table tally : List ℕ} {k at : ℕ} → Alike a from to p t y z table tally k at → (z ≡ size a at → ⊥) → from < at
+gone-on {from = from} {at = at} l d = go (ℕ-discrete at from)
+  where
+    go : Dec (at ≡ from) → from < at
+    go (yes e) = absurd (d (l .begun e))
+    go (no n) = omega (arith, l .least, n)
+
+pub alike-first : {a : List ℕ} {from to p : ℕ} {table tally : List ℕ} (z : ℕ) → z ≡ size a from → Alike a from to p table tally z table tally 0 from
+alike-first {a} {from} {to} {p} {table} {tally} z e = record {
+  on = λ f n k t y _ g. let d : k ≡ k + 0 = omega arith in subst (λ (i : ℕ). Going a f to n t y i from table tally) d g;
+  least = omega arith;
+  begun = λ _. e;
+}
+
+pub alike-next :
+    {a : List ℕ} {from to p : ℕ} {table₀ tally₀ : List ℕ} {z : ℕ} {table tally : List ℕ} {k at : ℕ} → Alike a from to p table₀ tally₀ z table tally k at → at < to → 20 ≤ z
+    → z ≡ size a at → (table′ tally′ : List ℕ) → GathersOne a at (p + (at - from)) table tally table′ tally′ → Alike a from to p table₀ tally₀ z table′ tally′ (k + 1) (at + z)
+alike-next {a} {from} {to} {p} {table₀} {tally₀} {z} {table} {tally} {k} {at} l h low e table′ tally′ o = record {
+  on = λ f n k′ t y d g.
+      let m = l .on f n k′ t y d g in
+      let q : p + (at - from) ≡ n + (at - f) = omega (arith, g .here, l .least) in
+      let c : (k′ + k) + 1 ≡ k′ + (k + 1) = omega arith in
+      subst (λ (i : ℕ). Going a f to n t y i (at + z) table′ tally′) c (going-next m h (p + (at - from)) z table′ tally′ q e o);
+  least = omega (arith, l .least);
+  begun = λ d. absurd (omega (arith, l .least));
+}

@@ -1,6 +1,6 @@
 -- Sections that go into a new product, gathered one after the other: what the table of kinds and the tally hold. What a function between two steps asks
 -- and promises. Assumes nothing.
-use Prim.Native.Nat.{ℕ, _+_, _≤_, _<_}
+use Prim.Native.Nat.{ℕ, _+_, _-_, _≤_, _<_}
 use mathlib.Core.Path.{_≡_}
 use mathlib.Core.Bool.{true}
 use mathlib.Core.List.{List, [], _∷_, _++_, List·Memᴰ as In}
@@ -11,6 +11,7 @@ use Rattle.parts.specs.Parts.{bytes, count}
 use Rattle.parts.specs.Kinds.{kindAt}
 use Rattle.parts.specs.Walk.{Walk}
 use Rattle.rewrite.specs.Table.{noted, SlotOf, Holds}
+use Rattle.rewrite.specs.declared.gather.Reached.{Reached}
 
 -- the table and the tally hold the records ks, n bytes in all
 pub record Gathered (ks : List (List ℕ)) (table tally : List ℕ) (n : ℕ) : Type 0 where
@@ -58,3 +59,37 @@ pub record Gathers (a : List ℕ) (i j n : ℕ) (table tally : List ℕ) (r : �
   pub many : (xs : List (List ℕ)) → Stretch a i j xs → r ≡ length xs
   pub all : (ks xs : List (List ℕ)) → Gathered ks table tally n → Stretch a i j xs → Gathered (ks ++ xs) table′ tally′ (n + bytes xs)
   pub low : (c : ℕ) → (xs : List (List ℕ)) → Stretch a i j xs → c < 9 → getD tally′ c 0 ≤ n + bytes xs
+
+-- between two records of a stretch: those before byte at are pre
+pub record Going (a : List ℕ) (from to n : ℕ) (table₀ tally₀ : List ℕ) (k at : ℕ) (table tally : List ℕ) : Type 0 where
+  pub start : Gatherable a from to n table₀ tally₀
+  pub pre : List (List ℕ)
+  pub post : List (List ℕ)
+  pub cut : start .records ≡ pre ++ post
+  pub walk : Walk a at (post ++ start .stretch .rest)
+  pub end : to ≡ at + bytes post
+  pub here : at ≡ from + bytes pre
+  pub many : k ≡ length pre
+  pub few : k ≤ at
+  pub low : (c : ℕ) → c < 9 → getD tally c 0 ≤ n + bytes pre
+  pub long : length table ≡ 20480
+  pub nine : length tally ≡ 9
+  pub got : (ks : List (List ℕ)) → Gathered ks table₀ tally₀ n → Gathered (ks ++ pre) table tally (n + bytes pre)
+
+-- some records from byte at on, of a stretch that is gathered as far as there
+pub record GatherSome (a : List ℕ) (at to p : ℕ) (table tally : List ℕ) : Type 0 where
+  pub from : ℕ
+  pub n : ℕ
+  pub table₀ : List ℕ
+  pub tally₀ : List ℕ
+  pub k : ℕ
+  pub going : Going a from to n table₀ tally₀ k at table tally
+  pub inside : at < to
+  pub place : p ≡ n + (at - from)
+
+-- wherever it was gathered as far as byte at, it is gathered as far as the byte of r, by as many records more
+pub record GathersSome (a : List ℕ) (at to p : ℕ) (table tally : List ℕ) (r : Reached) (table′ tally′ : List ℕ) : Type 0 where
+  pub further : at < r .at
+  pub on :
+      (from n k : ℕ) (table₀ tally₀ : List ℕ) → p ≡ n + (at - from) → Going a from to n table₀ tally₀ k at table tally
+      → Going a from to n table₀ tally₀ (k + r .records) (r .at) table′ tally′

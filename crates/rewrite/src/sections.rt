@@ -3,12 +3,11 @@ use crate::times::time_at;
 use meter::time::Time;
 use record::header::size_at;
 ghost use mathlib.Core.Path.{_≡_};
-ghost use mathlib.Core.Bool.{true};
-ghost use Prim.Native.Nat.{_+_, _≤_};
+ghost use Prim.Native.Nat.{_+_, _<_};
 ghost use lib.ListN.{length};
-ghost use Rattle.meter.specs.Time.{isTime, timeAt};
-ghost use Rattle.parts.specs.Pass.{firstOf, lastOf};
-ghost use Rattle.rewrite.specs.Sectioning.{PartsOf, SectionOne, Sectioning, Sectionable, Sectioned};
+ghost use Rattle.parts.specs.Pass.{lastOf};
+ghost use Rattle.rewrite.specs.Sectioning.{Left, FirstStartIs, StopsOn, LastStopIs};
+ghost use Rattle.rewrite.specs.Sectioning.{PartsOf, SectionOne, Sectioning, FirstMdr, Sectionable, Sectioned};
 
 // The bytes of the SPHR, of the pointers, of the global and of the variable records; what is left are MDRs.
 pub struct Sections {
@@ -20,15 +19,24 @@ pub struct Sections {
     pub stop: Time,
 }
 
-// The first defined start with the record whose start is at `at`: read only where none was found before.
-fn first_start(s: &[u8], at: usize, time: Time) -> Time
-    requires { ⌜ (at + 6 ≤ length (now s)) × (isTime (timeAt (now s) at) ≡ true) ⌝ }
-    ensures { λ r. ⌜ r ≡ firstOf time (timeAt (now (s .entry)) at) ⌝ }
+// The first defined start of the records from `from` on.
+fn first_start(s: &[u8], from: usize) -> Time
+    requires { ⌜ Left (now s) from ⌝ }
+    ensures { λ r. ⌜ FirstStartIs (now (s .entry)) from r ⌝ }
 {
-    match time {
-        Time::Undefined => time_at(s, at),
-        Time::At { day: _, milli: _ } => time,
+    let mut at = from;
+    while at < s.len() {
+        let time = time_at(s, at + 8);
+        match time {
+            Time::Undefined => {
+                at += size_at(s, at);
+            }
+            Time::At { day: _, milli: _ } => {
+                return time;
+            }
+        }
     }
+    Time::Undefined
 }
 
 fn last_of(time: Time, other: Time) -> Time
@@ -38,6 +46,46 @@ fn last_of(time: Time, other: Time) -> Time
         Time::Undefined => time,
         Time::At { day: _, milli: _ } => other,
     }
+}
+
+// The last defined stop of those before `at`.
+pub struct Stopped {
+    pub at: usize,
+    pub stop: Time,
+}
+
+// The records from `from` on that are of one size, before which the last defined stop is `before`. The next place is known before the size that stands
+// there has come from memory, so the headers are read side by side.
+fn stop_alike(s: &[u8], from: usize, before: Time) -> Stopped
+    requires { ⌜ Left (now s) from × (from < length (now s)) ⌝ }
+    ensures { λ r. ⌜ StopsOn (now (s .entry)) from before r ⌝ }
+{
+    let size = size_at(s, from);
+    let mut stop = before;
+    let mut at = from;
+    while at < s.len() {
+        if size_at(s, at) != size {
+            return Stopped { at, stop };
+        }
+        stop = last_of(stop, time_at(s, at + 14));
+        at += size;
+    }
+    Stopped { at, stop }
+}
+
+// The last defined stop of the records from `from` on.
+fn last_stop(s: &[u8], from: usize) -> Time
+    requires { ⌜ Left (now s) from ⌝ }
+    ensures { λ r. ⌜ LastStopIs (now (s .entry)) from r ⌝ }
+{
+    let mut stop = Time::Undefined;
+    let mut at = from;
+    while at < s.len() {
+        let stopped = stop_alike(s, at, stop);
+        at = stopped.at;
+        stop = stopped.stop;
+    }
+    stop
 }
 
 fn parts_of(
@@ -60,7 +108,7 @@ fn parts_of(
     }
 }
 
-// What is found with the record at `at`.
+// What is found with the record at `at`, which is no MDR.
 fn section_one(s: &[u8], at: usize, size: usize, found: Sections) -> Sections
     requires { ⌜ SectionOne (now s) at size found ⌝ }
     ensures { λ r. ⌜ Sectioning (now (s .entry)) (at + size) r ⌝ }
@@ -79,21 +127,24 @@ fn section_one(s: &[u8], at: usize, size: usize, found: Sections) -> Sections
         next.global = found.global + size;
         return next;
     }
-    if class < 8 {
-        next.variable = found.variable + size;
-        return next;
-    }
-    let start = found.start;
-    let stop = found.stop;
-    let first = first_start(s, at + 8, start);
-    let last = last_of(stop, time_at(s, at + 14));
+    next.variable = found.variable + size;
+    next
+}
+
+// What is found with the MDRs, which go from `at` to the end.
+fn with_mdrs(s: &[u8], at: usize, found: Sections) -> Sections
+    requires { ⌜ FirstMdr (now s) at found ⌝ }
+    ensures { λ r. ⌜ Sectioned (now (s .entry)) r ⌝ }
+{
+    let start = first_start(s, at);
+    let stop = last_stop(s, at);
     parts_of(
         found.sphr,
         found.ipr,
         found.global,
         found.variable,
-        first,
-        last,
+        start,
+        stop,
     )
 }
 
@@ -104,6 +155,9 @@ pub(crate) fn sections_of(s: &[u8]) -> Sections
     let mut found = parts_of(0, 0, 0, 0, Time::Undefined, Time::Undefined);
     let mut at: usize = 3307;
     while at < s.len() {
+        if s[at] > 7 {
+            return with_mdrs(s, at, found);
+        }
         let size = size_at(s, at);
         found = section_one(s, at, size, found);
         at += size;

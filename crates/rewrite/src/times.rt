@@ -3,11 +3,10 @@ use meter::time::Order;
 use meter::time::Time;
 use meter::time::TimeOrder;
 ghost use mathlib.Core.Path.{_≡_};
-ghost use mathlib.Core.Bool.{true};
 ghost use Prim.Native.Nat.{_+_, _≤_, _<_};
 ghost use lib.ListN.{length};
 ghost use Rattle.meter.specs.Integer.{beAt};
-ghost use Rattle.meter.specs.Time.{isTime, timeAt, compared};
+ghost use Rattle.meter.specs.Time.{timeAt, compared};
 ghost use Rattle.record.specs.Times.{isAfter};
 ghost use Rattle.parts.specs.Cut.{isUpTo, window, within};
 ghost use Rattle.parts.specs.CutHeader.{sooner, later};
@@ -37,7 +36,7 @@ fn bits_at(s: &[u8], at: usize) -> u64
 
 // The time of a product that was judged: what its bits say, with nothing left to test.
 pub(crate) fn time_at(s: &[u8], at: usize) -> Time
-    requires { ⌜ (at + 6 ≤ length (now s)) × (isTime (timeAt (now s) at) ≡ true) ⌝ }
+    requires { ⌜ at + 6 ≤ length (now s) ⌝ }
     ensures { λ r. ⌜ r ≡ timeAt (now (s .entry)) at ⌝ }
 {
     let bits = bits_at(s, at);

@@ -1,12 +1,10 @@
--- `rewrite::gather::gather` meets its contract: the records before the next one are gathered. Assumes nothing.
-use Prim.Native.Nat.{ℕ, _-_, _+_, _≤_}
+-- `rewrite::gather::gather` meets its contract: the records before the next one are gathered, some of one size at a time. Assumes nothing.
+use Prim.Native.Nat.{_+_, _-_}
 use native.Mathlib.Omega.{arith}
 use mathlib.Core.Path.{_≡_, refl, sym, _∙_}
-use lib.ListN.{length}
 use borrow.Author.Needs.{needs}
-use Rattle.record.proofs.HeaderLaws.{size-there}
-use Rattle.demands.specs.Product.{size}
-use Rattle.rewrite.proofs.GatherLaws.{Going, going-first, going-least, going-come, going-one, going-next, going-last}
+use Rattle.rewrite.specs.Gathering.{Going}
+use Rattle.rewrite.proofs.GatherLaws.{going-first, going-one, going-last}
 use Rattle.rewrite.proofs.gather.gather.Statement.{statement}
 use Rattle.rewrite.proofs.gather.gather.Tie as tie
 
@@ -19,47 +17,47 @@ abbrev μ-loop : tie.MeasureT-loop
 abbrev S : tie.At-loop Inv-loop μ-loop → tie.Start Inv-loop μ-loop
 S c = c .before .before .before .before
 
-abbrev L : tie.After-size-at Inv-loop μ-loop → tie.In-loop Inv-loop μ-loop
-L c = c .before .before .before .before .before .before .before .before
+abbrev G : tie.After-struct-known Inv-loop μ-loop → tie.After-gather-alike Inv-loop μ-loop
+G c = c .before .before .before .before .before
 
-size-is : (c : tie.After-size-at Inv-loop μ-loop) → c .size-at .result ≡ size (S (L c .before) .args .s .now) (L c .before .loop .at)
-size-is c =
-    let l = L c in
-    let i = l .before .loop in
-    c .size-at .ensures ∙ size-there (S (l .before) .args .s .now) (i .at) (omega (arith, going-one (i .inv) (l .loop-test .taken) _ refl .come))
+abbrev L : tie.After-struct-known Inv-loop μ-loop → tie.In-loop Inv-loop μ-loop
+L c = G c .before .before .before
 
-come : (c : tie.In-loop Inv-loop μ-loop) → c .before .loop .at + size (S (c .before) .args .s .now) (c .before .loop .at) ≤ length (S (c .before) .args .s .now)
-come c = going-come (c .before .loop .inv) (c .loop-test .taken)
+further : (c : tie.After-struct-known Inv-loop μ-loop) → Going (S (L c .before) .args .s .now) (S (L c .before) .args .from) (S (L c .before) .args .to) (S (L c .before) .args .n) (S (L c .before) .args .table .now) (S (L c .before) .args .tally .now) (L c .before .loop .records + G c .gather-alike .result .records) (G c .gather-alike .result .at) (G c .gather-alike .last .1 .1 .1 .1 .0) (G c .gather-alike .last .1 .1 .1 .1 .1 .0)
+further c = G c .gather-alike .ensures .on _ _ _ _ _ refl (L c .before .loop .inv)
 
 loop-holds : tie.Need-loop-holds Inv-loop μ-loop
 loop-holds c = going-first (c .before .before .before .pre)
 
-sub-gather-one : tie.Need-sub-gather-one Inv-loop μ-loop
-sub-gather-one c = omega (arith, c .before .loop .inv .here)
+sub-gather-alike : tie.Need-sub-gather-alike Inv-loop μ-loop
+sub-gather-alike c = omega (arith, c .before .loop .inv .here)
 
-add-gather-one : tie.Need-add-gather-one Inv-loop μ-loop
-add-gather-one c = omega (arith, going-one (c .before .loop .inv) (c .loop-test .taken) _ refl .small)
+add-gather-alike : tie.Need-add-gather-alike Inv-loop μ-loop
+add-gather-alike c = omega (arith, going-one (c .before .loop .inv) (c .loop-test .taken) _ refl .small)
 
-gather-one-requires : tie.Need-gather-one-requires Inv-loop μ-loop
-gather-one-requires c κs = let l = c .before .before in going-one (l .before .loop .inv) (l .loop-test .taken) _ refl
+gather-alike-requires : tie.Need-gather-alike-requires Inv-loop μ-loop
+gather-alike-requires c κs =
+    let l = c .before .before in
+    let a = S (l .before) .args in
+    record {
+      from = a .from;
+      n = a .n;
+      table₀ = a .table .now;
+      tally₀ = a .tally .now;
+      k = l .before .loop .records;
+      going = l .before .loop .inv;
+      inside = l .loop-test .taken;
+      place = refl;
+    }
 
 add-records : tie.Need-add-records Inv-loop μ-loop
-add-records c = let l = c .before .before .before .before .before .before .before in omega (arith, l .before .loop .inv .few, come l)
-
-size-at-requires : tie.Need-size-at-requires Inv-loop μ-loop
-size-at-requires c κs = search needs
-
-add-at : tie.Need-add-at Inv-loop μ-loop
-add-at c = omega (arith, size-is c, come (L c))
+add-records c = let g = further c in omega (arith, g .few, g .walk .within)
 
 loop-less : tie.Need-loop-less Inv-loop μ-loop
-loop-less c = let l = L c in omega (arith, size-is c, going-least (l .before .loop .inv) (l .loop-test .taken), l .loop-test .taken)
+loop-less c = omega (arith, G c .gather-alike .ensures .further, L c .loop-test .taken)
 
 loop-again : tie.Need-loop-again Inv-loop μ-loop
-loop-again c =
-    let l = L c in
-    let g = c .before .before .before .before .before in
-    going-next (l .before .loop .inv) (l .loop-test .taken) _ (c .size-at .result) _ _ refl (size-is c) (g .gather-one .ensures)
+loop-again c = further c
 
 same-length : tie.Need-same-length Inv-loop μ-loop
 same-length c = let i = c .before .loop .inv in i .long ∙ sym (i .start .gathered .holds .long)
@@ -77,12 +75,10 @@ gather-spec =
     Inv-loop
     μ-loop
     loop-holds
-    sub-gather-one
-    add-gather-one
-    gather-one-requires
+    sub-gather-alike
+    add-gather-alike
+    gather-alike-requires
     add-records
-    size-at-requires
-    add-at
     loop-less
     loop-again
     same-length

@@ -1,5 +1,5 @@
--- `rewrite::sections::sections_of` meets its contract: what is found is of the records before the next one. Assumes nothing.
-use Prim.Native.Nat.{ℕ, _-_, _+_, _≤_}
+-- `rewrite::sections::sections_of` meets its contract: what is found is of the records before the next one, up to the first MDR. Assumes nothing.
+use Prim.Native.Nat.{ℕ, _-_, _+_, _≤_, _<_}
 use native.Mathlib.Omega.{arith}
 use mathlib.Core.Path.{_≡_, refl, _∙_}
 use lib.ListN.{length}
@@ -17,32 +17,48 @@ Inv-loop s found₀ at₀ found at = Sectioning s at found
 abbrev μ-loop : tie.MeasureT-loop
 μ-loop s found₀ at₀ found at = length s - at
 
-size-is : (c : tie.After-size-at Inv-loop μ-loop) → c .size-at .result ≡ size (c .before .before .before .before .before .args .s .now) (c .before .before .loop .at)
-size-is c =
-    let l = c .before in
-    let i = l .before .loop in
-    c .size-at .ensures ∙ size-there (l .before .before .before .before .args .s .now) (i .at) (omega (arith, turn-lead (i .inv) (l .loop-test .taken) refl .come))
+abbrev S : tie.At-loop Inv-loop μ-loop → tie.Start Inv-loop μ-loop
+S c = c .before .before .before
 
-most : (c : tie.After-size-at Inv-loop μ-loop) → c .before .before .loop .at + c .size-at .result ≤ length (c .before .before .before .before .before .args .s .now)
-most c = turn-most (c .before .before .loop .inv) (c .before .loop-test .taken) (size-is c)
+abbrev L : tie.After-size-at Inv-loop μ-loop → tie.In-loop Inv-loop μ-loop
+L c = c .before .before .before
+
+size-is : (c : tie.After-size-at Inv-loop μ-loop) → c .size-at .result ≡ size (S (L c .before) .args .s .now) (L c .before .loop .at)
+size-is c =
+    let l = L c in
+    let i = l .before .loop in
+    c .size-at .ensures ∙ size-there (S (l .before) .args .s .now) (i .at) (omega (arith, turn-lead (i .inv) (l .loop-test .taken) refl .come))
+
+most : (c : tie.After-size-at Inv-loop μ-loop) → L c .before .loop .at + c .size-at .result ≤ length (S (L c .before) .args .s .now)
+most c = let l = L c in turn-most (l .before .loop .inv) (l .loop-test .taken) (size-is c)
 
 loop-holds : tie.Need-loop-holds Inv-loop μ-loop
 loop-holds c = sections-first (c .parts-of .result) (c .before .before .pre) (c .parts-of .ensures)
 
+with-mdrs-requires : tie.Need-with-mdrs-requires Inv-loop μ-loop
+with-mdrs-requires c κs =
+    let l = c .before .before in
+    record { sectioning = l .before .loop .inv; inside = l .loop-test .taken; mdr = omega (arith, c .if1 .taken) }
+
+returns : tie.Need-returns Inv-loop μ-loop
+returns c = c .with-mdrs .ensures
+
 section-one-requires : tie.Need-section-one-requires Inv-loop μ-loop
-section-one-requires c κs = record { sectioning = c .before .before .loop .inv; inside = c .before .loop-test .taken; sized = size-is c }
+section-one-requires c κs =
+    let l = L c in
+    record { sectioning = l .before .loop .inv; inside = l .loop-test .taken; sized = size-is c; other = omega (arith, c .before .if1 .left) }
 
 add-at : tie.Need-add-at Inv-loop μ-loop
 add-at c = omega (arith, most (c .before))
 
 loop-less : tie.Need-loop-less Inv-loop μ-loop
-loop-less c = let z = c .before in omega (arith, turn-least (z .before .before .loop .inv) (z .before .loop-test .taken) (size-is z), most z)
+loop-less c = let z = c .before in let l = L z in omega (arith, turn-least (l .before .loop .inv) (l .loop-test .taken) (size-is z), most z)
 
 loop-again : tie.Need-loop-again Inv-loop μ-loop
 loop-again c = c .section-one .ensures
 
-returns : tie.Need-returns Inv-loop μ-loop
-returns c = sections-last (c .before .loop .inv) (c .loop-test .left)
+returns-2 : tie.Need-returns-2 Inv-loop μ-loop
+returns-2 c = sections-last (c .before .loop .inv) (c .loop-test .left)
 
 pub sections-of-spec : {M : Type 1} → statement M
 sections-of-spec =
@@ -52,9 +68,12 @@ sections-of-spec =
     μ-loop
     (λ c κs. search needs)
     loop-holds
+    (λ c. search needs)
+    with-mdrs-requires
+    returns
     (λ c κs. search needs)
     section-one-requires
     add-at
     loop-less
     loop-again
-    returns)
+    returns-2)

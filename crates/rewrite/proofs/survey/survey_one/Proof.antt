@@ -156,7 +156,7 @@ add-time-at : tie.Need-add-time-at
 add-time-at c = search needs
 
 time-at-requires : tie.Need-time-at-requires
-time-at-requires c κs = let k = K (E (c .before .before .before)) in (omega (arith, lead k .come), lead k .start)
+time-at-requires c κs = let k = K (E (c .before .before .before)) in omega (arith, lead k .come)
 
 sooner-requires : tie.Need-sooner-requires
 sooner-requires c κs = search needs
@@ -165,7 +165,7 @@ add-time-at-2 : tie.Need-add-time-at-2
 add-time-at-2 c = search needs
 
 time-at-requires-2 : tie.Need-time-at-requires-2
-time-at-requires-2 c κs = let k = K (E (c .before .before .before .before .before)) in (omega (arith, lead k .come), lead k .stop)
+time-at-requires-2 c κs = let k = K (E (c .before .before .before .before .before)) in omega (arith, lead k .come)
 
 later-requires : tie.Need-later-requires
 later-requires c κs = search needs

@@ -5,10 +5,12 @@ use native.Mathlib.Decide.{ℕ-discrete}
 use native.Mathlib.Omega.{arith}
 use mathlib.Core.Path.{_≡_, refl, sym, ap, subst, _∙_}
 use mathlib.Core.Bool.{Bool, true, false, cond}
+use mathlib.Core.Logic.{inl, inr, ⊎-elim}
 use mathlib.Core.List.{List, [], _∷_, _++_, append-nil, List·Memᴰ as In, List·Memᴰ·head as top, List·Memᴰ·tail as pop}
 use borrow.Author.Tests.{eq-eqb, ne-eqb, le-leb, lt-leb}
 use lib.Dec.{eqb, leb}
 use lib.ListN.{length, getD}
+use Rattle.meter.specs.Integer.{beAt}
 use Rattle.meter.specs.Time.{timeAt}
 use Rattle.meter.specs.declared.time.Time.{Time}
 use Rattle.meter.specs.declared.time.Time.the-variants as T
@@ -24,11 +26,17 @@ use Rattle.parts.proofs.OnlyLaws.{only-append, only-none, only-all}
 use Rattle.parts.proofs.WalkLaws.{Next, next, walk-next, walk-none, ahead-size, ahead-class, one-walk}
 use Rattle.rewrite.specs.declared.sections.Sections.{Sections}
 use Rattle.rewrite.specs.Keeping.{Lead}
-use Rattle.rewrite.specs.Sectioning.{Left, FirstStartIs, LastStopIs, Stopping, PartsOf, SectionsAre, Sectioning, FirstMdr, Sectionable, Sectioned}
+use Rattle.rewrite.specs.Sectioning.{Left, LeftAfter, FirstStartIs, LastStopIs, stopAt, LaterIs, Stopping, PartsOf, SectionsAre, Sectioning, FirstMdr, Sectionable, Sectioned}
 use Rattle.rewrite.proofs.KeepLaws.{lead-there, start-there, stop-there}
 use Rattle.rewrite.proofs.SurveyLaws.{none-taken, one-taken, bytes-snoc, Step, step}
 
 -- ---- the first start and the last stop of what is left
+undefined-at : (a : List ℕ) (i : ℕ) → eqb (beAt a i 6) 281474976710655 ≡ true → timeAt a i ≡ T.Undefined
+undefined-at a i e = rw e refl
+
+defined-last : (t : Time) (a : List ℕ) (i : ℕ) → eqb (beAt a i 6) 281474976710655 ≡ false → lastOf t (timeAt a i) ≡ timeAt a i
+defined-last t a i e = rw e refl
+
 start-kept : (d m : ℕ) (rs : List (List ℕ)) → firstStartFrom (T.At d m) rs ≡ T.At d m
 start-kept d m [] = refl
 start-kept d m (r ∷ rs) = start-kept d m rs
@@ -45,8 +53,8 @@ module _ {a : List ℕ} {i : ℕ} (l : Left a i) where
   pub start-first : Starting a i i
   start-first = record { left = l; same = λ rs w. ap (firstStartFrom T.Undefined) (one-left rs w) }
 
-  pub stop-first : (t : Time) → Stopping a i t i t
-  stop-first t = record { left = l; same = λ rs w. ap (lastStopFrom t) (one-left rs w) }
+  pub stop-first : (p : ℕ) → 3307 ≤ i → p + 20 ≤ length a → Stopping a i p i p
+  stop-first p h c = record { after = record { left = l; head = h; come = c }; same = λ rs w. ap (lastStopFrom (stopAt a p)) (one-left rs w) }
 
   -- the record at byte i, where one is left
   module _ (h : i < length a) where
@@ -95,30 +103,40 @@ module _ {a : List ℕ} {i j : ℕ} (s : Starting a i j) where
   pub start-none : length a ≤ j → FirstStartIs a i T.Undefined
   start-none h rs w = sym (s .same rs w ∙ ap (firstStartFrom T.Undefined) (walk-none (s .left .walk) h))
 
-module _ {a : List ℕ} {i j : ℕ} {t u : Time} (s : Stopping a i t j u) where
-  pub stop-next : (v : Time) (n : ℕ) → j < length a → n ≡ size a j → v ≡ lastOf u (timeAt a (j + 14)) → Stopping a i t (j + n) v
-  stop-next v n h e d =
-      let o = after (s .left .small) e (walk-next (s .left .walk) h) in
-      record { left = o .left; same = λ rs w. s .same rs w ∙ o .stop u ∙ ap (λ (x : Time). lastStopFrom x (o .left .records)) (sym d) }
+module _ {a : List ℕ} {i p j q : ℕ} (s : Stopping a i p j q) where
+  pub stop-next : (r n : ℕ) → j < length a → n ≡ size a j → LaterIs a q j r → Stopping a i p (j + n) r
+  stop-next r n h e d =
+      let o = after (s .after .left .small) e (walk-next (s .after .left .walk) h) in
+      record {
+        after = record { left = o .left; head = omega (arith, s .after .head); come = ⊎-elim (λ e. omega (arith, s .after .come)) (λ e. omega (arith, left-come (s .after .left) h)) (d .one) };
+        same = λ rs w. s .same rs w ∙ o .stop (stopAt a q) ∙ ap (λ (x : Time). lastStopFrom x (o .left .records)) (sym (d .stop));
+      }
 
-  pub stop-none : length a ≤ j → (rs : List (List ℕ)) → Walk a i rs → u ≡ lastStopFrom t rs
-  stop-none h rs w = sym (s .same rs w ∙ ap (lastStopFrom u) (walk-none (s .left .walk) h))
+  pub stop-none : length a ≤ j → (rs : List (List ℕ)) → Walk a i rs → stopAt a q ≡ lastStopFrom (stopAt a p) rs
+  stop-none h rs w = sym (s .same rs w ∙ ap (lastStopFrom (stopAt a q)) (walk-none (s .after .left .walk) h))
 
-  pub stop-then : {k : ℕ} {v : Time} → Stopping a j u k v → Stopping a i t k v
-  stop-then q = record { left = q .left; same = λ rs w. s .same rs w ∙ q .same (s .left .records) (s .left .walk) }
+  pub stop-then : {k r : ℕ} → Stopping a j q k r → Stopping a i p k r
+  stop-then o = record { after = o .after; same = λ rs w. s .same rs w ∙ o .same (s .after .left .records) (s .after .left .walk) }
 
 -- between two records of one size
-pub record Alike (a : List ℕ) (i : ℕ) (t : Time) (size′ : ℕ) (j : ℕ) (u : Time) : Type 0 where
-  pub on : Stopping a i t j u
+pub record Alike (a : List ℕ) (i p z j q : ℕ) : Type 0 where
+  pub on : Stopping a i p j q
   pub from : i ≤ j
-  pub begun : j ≡ i → size′ ≡ size a j
+  pub begun : j ≡ i → z ≡ size a j
 
-pub gone-on : {a : List ℕ} {i : ℕ} {t : Time} {size′ j : ℕ} {u : Time} → Alike a i t size′ j u → (size′ ≡ size a j → ⊥) → i < j
+pub gone-on : {a : List ℕ} {i p z j q : ℕ} → Alike a i p z j q → (z ≡ size a j → ⊥) → i < j
 gone-on {i = i} {j = j} l d = go (ℕ-discrete j i)
   where
     go : Dec (j ≡ i) → i < j
     go (yes e) = absurd (d (l .begun e))
     go (no n) = omega (arith, l .from, n)
+
+-- the place of the last defined stop
+pub later-same : (a : List ℕ) (p i : ℕ) → eqb (beAt a (i + 14) 6) 281474976710655 ≡ true → LaterIs a p i p
+later-same a p i e = record { stop = ap (λ (t : Time). lastOf (stopAt a p) t) (sym (undefined-at a (i + 14) e)); one = inl refl }
+
+pub later-here : (a : List ℕ) (p i : ℕ) → 0 < i → eqb (beAt a (i + 14) 6) 281474976710655 ≡ false → LaterIs a p i i
+later-here a p i h e = record { stop = rw (ne-eqb i 0 (λ d. omega arith)) (sym (defined-last (stopAt a p) a (i + 14) e)); one = inr refl }
 
 -- ---- the bytes of a section, with one record more
 more : (f : List ℕ → Bool) (pre : List (List ℕ)) (r : List ℕ) (n k : ℕ) → f r ≡ true → n ≡ bytes (only f pre) → k ≡ length r → n + k ≡ bytes (only f (pre ++ (r ∷ [])))
@@ -280,6 +298,9 @@ after-mdr (y ∷ rs) (e, f) x (pop n) = after-mdr rs (subst (λ (c : ℕ). Follo
 module _ {a : List ℕ} {i : ℕ} {x : Sections} (q : FirstMdr a i x) where
   m : Sectioning a i x
   m = q .sectioning
+
+  pub mdr-head : 3307 ≤ i
+  mdr-head = omega (arith, m .below)
 
   pub mdr-left : Left a i
   mdr-left = record { small = m .small; records = m .rest; walk = m .walk }

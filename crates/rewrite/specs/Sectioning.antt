@@ -1,14 +1,18 @@
 -- The sections of a product, from its headers. What a function between two steps asks and promises. Assumes nothing.
 use Prim.Native.Nat.{ℕ, _+_, _≤_, _<_}
 use mathlib.Core.Path.{_≡_}
+use mathlib.Core.Bool.{cond}
+use mathlib.Core.Logic.{_⊎_}
 use mathlib.Core.List.{List, [], _++_}
+use lib.Dec.{eqb}
 use lib.ListN.{length, getD}
+use Rattle.meter.specs.Time.{timeAt}
 use Rattle.meter.specs.declared.time.Time.{Time}
 use Rattle.meter.specs.declared.time.Time.the-variants as T
 use Rattle.demands.specs.Product.{size as sizeOf}
 use Rattle.parts.specs.Parts.{bytes, Follows}
 use Rattle.parts.specs.Only.{only, isIn, isSphr, isGlobal, isVariable, isMdr}
-use Rattle.parts.specs.Pass.{firstStartFrom, lastStopFrom, firstDefinedStart, lastDefinedStop}
+use Rattle.parts.specs.Pass.{lastOf, firstStartFrom, lastStopFrom, firstDefinedStart, lastDefinedStop}
 use Rattle.parts.specs.Walk.{Walk}
 use Rattle.rewrite.specs.declared.sections.Sections.{Sections}
 use Rattle.rewrite.specs.declared.sections.Stopped.{Stopped}
@@ -34,14 +38,29 @@ FirstStartIs a i t = (rs : List (List ℕ)) → Walk a i rs → t ≡ firstStart
 abbrev pub LastStopIs : List ℕ → ℕ → Time → Type 0
 LastStopIs a i t = (rs : List (List ℕ)) → Walk a i rs → t ≡ lastStopFrom T.Undefined rs
 
--- those from byte i on, after a stop t, have the last stop of those from byte j on, after a stop u
-pub record Stopping (a : List ℕ) (i : ℕ) (t : Time) (j : ℕ) (u : Time) : Type 0 where
-  pub left : Left a j
-  pub same : (rs : List (List ℕ)) → Walk a i rs → lastStopFrom t rs ≡ lastStopFrom u (left .records)
+-- the stop of the record at byte p; none where p is 0
+abbrev pub stopAt : List ℕ → ℕ → Time
+stopAt a p = cond (eqb p 0) T.Undefined (timeAt a (p + 14))
 
-pub record StopsOn (a : List ℕ) (i : ℕ) (t : Time) (r : Stopped) : Type 0 where
+-- r is the place with the record at byte i
+pub record LaterIs (a : List ℕ) (p i r : ℕ) : Type 0 where
+  pub stop : stopAt a r ≡ lastOf (stopAt a p) (timeAt a (i + 14))
+  pub one : (r ≡ p) ⊎ (r ≡ i)
+
+-- those from byte i on are left, and p is a place before them, or 0
+pub record LeftAfter (a : List ℕ) (i p : ℕ) : Type 0 where
+  pub left : Left a i
+  pub head : 3307 ≤ i
+  pub come : p + 20 ≤ length a
+
+-- those from byte i on, after the stop at p, have the last stop of those from byte j on, after the stop at q
+pub record Stopping (a : List ℕ) (i p j q : ℕ) : Type 0 where
+  pub after : LeftAfter a j q
+  pub same : (rs : List (List ℕ)) → Walk a i rs → lastStopFrom (stopAt a p) rs ≡ lastStopFrom (stopAt a q) (after .left .records)
+
+pub record StopsOn (a : List ℕ) (i p : ℕ) (r : Stopped) : Type 0 where
   pub further : i < r .at
-  pub on : Stopping a i t (r .at) (r .stop)
+  pub on : Stopping a i p (r .at) (r .place)
 
 -- WHAT IS FOUND of the records rs
 pub record SectionsAre (rs : List (List ℕ)) (x : Sections) : Type 0 where

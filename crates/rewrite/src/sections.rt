@@ -1,12 +1,12 @@
 // The sections of a product: how many bytes each has, and of its MDRs the first defined start and the last defined stop.
+use crate::times::is_undefined;
 use crate::times::time_at;
 use meter::time::Time;
 use record::header::size_at;
 ghost use mathlib.Core.Path.{_≡_};
-ghost use Prim.Native.Nat.{_+_, _<_};
+ghost use Prim.Native.Nat.{_+_, _≤_, _<_};
 ghost use lib.ListN.{length};
-ghost use Rattle.parts.specs.Pass.{lastOf};
-ghost use Rattle.rewrite.specs.Sectioning.{Left, FirstStartIs, StopsOn, LastStopIs};
+ghost use Rattle.rewrite.specs.Sectioning.{Left, LeftAfter, FirstStartIs, stopAt, LaterIs, StopsOn, LastStopIs};
 ghost use Rattle.rewrite.specs.Sectioning.{PartsOf, SectionOne, Sectioning, FirstMdr, Sectionable, Sectioned};
 
 // The bytes of the SPHR, of the pointers, of the global and of the variable records; what is left are MDRs.
@@ -39,53 +39,63 @@ fn first_start(s: &[u8], from: usize) -> Time
     Time::Undefined
 }
 
-fn last_of(time: Time, other: Time) -> Time
-    ensures { λ r. ⌜ r ≡ lastOf time other ⌝ }
+// The stop of the record at `place`; none where that is 0.
+fn stop_at(s: &[u8], place: usize) -> Time
+    requires { ⌜ place + 20 ≤ length (now s) ⌝ }
+    ensures { λ r. ⌜ r ≡ stopAt (now (s .entry)) place ⌝ }
 {
-    match other {
-        Time::Undefined => time,
-        Time::At { day: _, milli: _ } => other,
+    if place == 0 {
+        return Time::Undefined;
     }
+    time_at(s, place + 14)
 }
 
-// The last defined stop of those before `at`.
+// The place of the last record with a defined stop, with the record at `at`. A processor picks one of two values without a guess.
+fn later_place(s: &[u8], place: usize, at: usize) -> usize
+    requires { ⌜ (0 < at) × (at + 20 ≤ length (now s)) ⌝ }
+    ensures { λ r. ⌜ LaterIs (now (s .entry)) place at r ⌝ }
+{
+    if is_undefined(s, at + 14) { place } else { at }
+}
+
+// The place of the last record with a defined stop before `at`, or 0.
 pub struct Stopped {
     pub at: usize,
-    pub stop: Time,
+    pub place: usize,
 }
 
-// The records from `from` on that are of one size, before which the last defined stop is `before`. The next place is known before the size that stands
-// there has come from memory, so the headers are read side by side.
-fn stop_alike(s: &[u8], from: usize, before: Time) -> Stopped
-    requires { ⌜ Left (now s) from × (from < length (now s)) ⌝ }
+// The records from `from` on that are of one size, before which the last one with a defined stop is at `before`. The next place is known before the
+// size that stands there has come from memory, so the headers are read side by side.
+fn stop_alike(s: &[u8], from: usize, before: usize) -> Stopped
+    requires { ⌜ LeftAfter (now s) from before × (from < length (now s)) ⌝ }
     ensures { λ r. ⌜ StopsOn (now (s .entry)) from before r ⌝ }
 {
     let size = size_at(s, from);
-    let mut stop = before;
+    let mut place = before;
     let mut at = from;
     while at < s.len() {
         if size_at(s, at) != size {
-            return Stopped { at, stop };
+            return Stopped { at, place };
         }
-        stop = last_of(stop, time_at(s, at + 14));
+        place = later_place(s, place, at);
         at += size;
     }
-    Stopped { at, stop }
+    Stopped { at, place }
 }
 
 // The last defined stop of the records from `from` on.
 fn last_stop(s: &[u8], from: usize) -> Time
-    requires { ⌜ Left (now s) from ⌝ }
+    requires { ⌜ Left (now s) from × (3307 ≤ from) ⌝ }
     ensures { λ r. ⌜ LastStopIs (now (s .entry)) from r ⌝ }
 {
-    let mut stop = Time::Undefined;
+    let mut place: usize = 0;
     let mut at = from;
     while at < s.len() {
-        let stopped = stop_alike(s, at, stop);
+        let stopped = stop_alike(s, at, place);
         at = stopped.at;
-        stop = stopped.stop;
+        place = stopped.place;
     }
-    stop
+    stop_at(s, place)
 }
 
 fn parts_of(

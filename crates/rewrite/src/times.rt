@@ -4,6 +4,7 @@ use meter::time::Time;
 use meter::time::TimeOrder;
 ghost use mathlib.Core.Path.{_≡_};
 ghost use Prim.Native.Nat.{_+_, _≤_, _<_};
+ghost use lib.Dec.{eqb};
 ghost use lib.ListN.{length};
 ghost use Rattle.meter.specs.Integer.{beAt};
 ghost use Rattle.meter.specs.Time.{timeAt, compared};
@@ -32,6 +33,13 @@ fn bits_at(s: &[u8], at: usize) -> u64
     let first = (wide(s[at + 2]) * 256 + wide(s[at + 3])) * 256 + wide(s[at + 4]);
     let milli = first * 256 + wide(s[at + 5]);
     long(day) * 0x1_0000_0000 + long(milli)
+}
+
+pub(crate) fn is_undefined(s: &[u8], at: usize) -> bool
+    requires { ⌜ at + 6 ≤ length (now s) ⌝ }
+    ensures { λ r. ⌜ r ≡ eqb (beAt (now (s .entry)) at 6) 281474976710655 ⌝ }
+{
+    bits_at(s, at) == 0xffff_ffff_ffff
 }
 
 // The time of a product that was judged: what its bits say, with nothing left to test.

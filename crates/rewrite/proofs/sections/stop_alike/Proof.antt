@@ -2,21 +2,20 @@
 -- is looked for, so that it goes on. Assumes nothing.
 use Prim.Native.Nat.{_-_}
 use native.Mathlib.Omega.{arith}
-use mathlib.Core.Path.{_≡_, sym, ap, _∙_}
+use mathlib.Core.Path.{_≡_, sym, _∙_}
 use lib.ListN.{length}
 use borrow.Author.Needs.{needs}
 use Rattle.record.proofs.HeaderLaws.{size-there}
-use Rattle.parts.specs.Pass.{lastOf}
 use Rattle.demands.specs.Product.{size}
 use Rattle.rewrite.proofs.SectionLaws.{Alike, gone-on, stop-first, stop-next, left-come, left-least, left-most}
 use Rattle.rewrite.proofs.sections.stop_alike.Statement.{statement}
 use Rattle.rewrite.proofs.sections.stop_alike.Tie as tie
 
 abbrev Inv-loop : tie.InvT-loop
-Inv-loop s from size stop₀ at₀ stop at = Alike s from stop₀ size at stop
+Inv-loop s from before size place₀ at₀ place at = Alike s from before size at place
 
 abbrev μ-loop : tie.MeasureT-loop
-μ-loop s from size stop₀ at₀ stop at = length s - at
+μ-loop s from before size place₀ at₀ place at = length s - at
 
 abbrev S : tie.At-loop Inv-loop μ-loop → tie.Start Inv-loop μ-loop
 S c = c .before .before .before
@@ -26,15 +25,15 @@ here : (c : tie.After-size-at2 Inv-loop μ-loop) → c .size-at2 .result ≡ siz
 here c =
     let l = c .before in
     let i = l .before .loop in
-    c .size-at2 .ensures ∙ size-there (S (l .before) .args .s .now) (i .at) (omega (arith, left-come (i .inv .on .left) (l .loop-test .taken)))
+    c .size-at2 .ensures ∙ size-there (S (l .before) .args .s .now) (i .at) (omega (arith, left-come (i .inv .on .after .left) (l .loop-test .taken)))
 
 sized : (c : tie.Else1 Inv-loop μ-loop) → c .before .before .before .before .size-at .result ≡ size (S (c .before .before .before) .args .s .now) (c .before .before .before .loop .at)
 sized c = sym (c .if1 .left) ∙ here (c .before)
 
-abbrev E : tie.After-last-of Inv-loop μ-loop → tie.Else1 Inv-loop μ-loop
-E c = c .before .before
+abbrev E : tie.After-later-place Inv-loop μ-loop → tie.Else1 Inv-loop μ-loop
+E c = c .before
 
-abbrev L : tie.After-last-of Inv-loop μ-loop → tie.In-loop Inv-loop μ-loop
+abbrev L : tie.After-later-place Inv-loop μ-loop → tie.In-loop Inv-loop μ-loop
 L c = E c .before .before
 
 loop-holds : tie.Need-loop-holds Inv-loop μ-loop
@@ -42,9 +41,9 @@ loop-holds c =
     let s = c .before .before in
     let p = s .pre in
     record {
-      on = stop-first (p .0) _;
+      on = stop-first (p .0 .left) (s .args .before) (p .0 .head) (p .0 .come);
       from = omega arith;
-      begun = λ _. c .size-at .ensures ∙ size-there (s .args .s .now) (s .args .from) (omega (arith, left-come (p .0) (p .1)));
+      begun = λ _. c .size-at .ensures ∙ size-there (s .args .s .now) (s .args .from) (omega (arith, left-come (p .0 .left) (p .1)));
     }
 
 returns : tie.Need-returns Inv-loop μ-loop
@@ -53,26 +52,26 @@ returns c =
     let i = z .before .before .loop .inv in
     record { further = gone-on i (λ e. c .if1 .taken (here z ∙ sym e)); on = i .on }
 
-add-time-at : tie.Need-add-time-at Inv-loop μ-loop
-add-time-at c = let l = c .before .before in let i = l .before .loop .inv .on .left in omega (arith, left-come i (l .loop-test .taken), i .small)
-
-time-at-requires : tie.Need-time-at-requires Inv-loop μ-loop
-time-at-requires c κs = let l = c .before .before in omega (arith, left-come (l .before .loop .inv .on .left) (l .loop-test .taken))
+later-place-requires : tie.Need-later-place-requires Inv-loop μ-loop
+later-place-requires c κs =
+    let l = c .before .before in
+    let i = l .before .loop .inv .on .after in
+    (omega (arith, i .head), left-come (i .left) (l .loop-test .taken))
 
 add-at : tie.Need-add-at Inv-loop μ-loop
-add-at c = let l = L c in let i = l .before .loop .inv .on .left in omega (arith, sized (E c), left-most i (l .loop-test .taken), i .small)
+add-at c = let l = L c in let i = l .before .loop .inv .on .after .left in omega (arith, sized (E c), left-most i (l .loop-test .taken), i .small)
 
 loop-less : tie.Need-loop-less Inv-loop μ-loop
-loop-less c = let l = L c in omega (arith, sized (E c), left-least (l .before .loop .inv .on .left) (l .loop-test .taken), l .loop-test .taken)
+loop-less c = let l = L c in omega (arith, sized (E c), left-least (l .before .loop .inv .on .after .left) (l .loop-test .taken), l .loop-test .taken)
 
 loop-again : tie.Need-loop-again Inv-loop μ-loop
 loop-again c =
     let l = L c in
     let i = l .before .loop in
     record {
-      on = stop-next (i .inv .on) (c .last-of .result) _ (l .loop-test .taken) (sized (E c)) (c .last-of .ensures ∙ ap (lastOf (i .stop)) (c .before .time-at .ensures));
+      on = stop-next (i .inv .on) (c .later-place .result) _ (l .loop-test .taken) (sized (E c)) (c .later-place .ensures);
       from = omega (arith, i .inv .from);
-      begun = λ e. absurd (omega (arith, i .inv .from, sized (E c), left-least (i .inv .on .left) (l .loop-test .taken)));
+      begun = λ e. absurd (omega (arith, i .inv .from, sized (E c), left-least (i .inv .on .after .left) (l .loop-test .taken)));
     }
 
 returns-2 : tie.Need-returns-2 Inv-loop μ-loop
@@ -88,9 +87,7 @@ stop-alike-spec =
     loop-holds
     (λ c κs. search needs)
     returns
-    add-time-at
-    time-at-requires
-    (λ c κs. search needs)
+    later-place-requires
     add-at
     loop-less
     loop-again

@@ -1,6 +1,6 @@
 -- `rewrite::sections::with_mdrs` meets its contract: what is left are MDRs (SectionLaws). Assumes nothing.
 use borrow.Author.Needs.{needs}
-use Rattle.rewrite.proofs.SectionLaws.{mdr-left, sections-mdrs}
+use Rattle.rewrite.proofs.SectionLaws.{mdr-head, mdr-left, sections-mdrs}
 use Rattle.rewrite.proofs.sections.with_mdrs.Statement.{statement}
 use Rattle.rewrite.proofs.sections.with_mdrs.Tie as tie
 
@@ -8,7 +8,7 @@ first-start-requires : tie.Need-first-start-requires
 first-start-requires c κs = mdr-left (c .before .pre)
 
 last-stop-requires : tie.Need-last-stop-requires
-last-stop-requires c κs = mdr-left (c .before .before .pre)
+last-stop-requires c κs = let p = c .before .before .pre in (mdr-left p, mdr-head p)
 
 returns : tie.Need-returns
 returns c =

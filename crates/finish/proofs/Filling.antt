@@ -3,78 +3,22 @@ use Prim.Native.Nat.{ℕ, _+_, _-_, _≤_, _<_}
 use native.Mathlib.Decide.{ℕ-discrete}
 use native.Mathlib.Omega.{arith}
 use mathlib.Core.Path.{_≡_, refl, sym, ap, _∙_}
-use mathlib.Core.Bool.{Bool, true, false, _&&_}
 use mathlib.Core.List.{List, [], _∷_}
-use borrow.Author.Tests.{leb-true, eqb-true}
-use lib.Dec.{eqb, leb}
 use lib.ListN.{length, getD, set, length-set}
-use Rattle.meter.specs.Integer.{beAt}
-use Rattle.record.specs.Header.{sizeThere, isClass, isGroup}
-use Rattle.record.proofs.HeaderLaws.{size-there}
-use Rattle.record.proofs.FieldLaws.{both}
-use Rattle.mphr.specs.Table.{headed, declared, bad-header}
 use Rattle.mphr.proofs.Export.{sized}
-use Rattle.judge.specs.Table.{Site, first, classAt, sizeAt, Leads, here, on, unknown, at}
+use Rattle.judge.specs.Table.{Site, classAt, sizeAt, Leads, here, on}
 use Rattle.judge.specs.Extent.{Complete, Covered}
 use Rattle.judge.specs.Stretch.{over, further}
 use Rattle.judge.specs.Stretch as J
-use Rattle.judge.proofs.WayLaws.{leads-le, snoc}
-use Rattle.judge.proofs.Covering.{complete-fine, whole-come, head-here, sound-here}
-use Rattle.finish.specs.Finish.{starts, put, Refuses, Accepts, FinishedIs, refusedWith}
+use Rattle.judge.proofs.Covering.{complete-fine, whole-come}
+use Rattle.finish.specs.Finish.{starts, put, Refuses, Accepts, FinishedIs, RowsBy, RefusesBy, Unfit, VerdictIs, refusedWith}
 use Rattle.finish.specs.declared.Finished.{Finished}
+use Rattle.finish.specs.Ahead.{Record, Ahead}
 use Rattle.finish.specs.Rows.{groupAt, subclassAt, ordinal, row, rowsAfter, rowsOf}
 use Rattle.finish.specs.Slots.{slotOf, slotAt}
-use Rattle.finish.specs.Fill.{Record, Ahead, none, more, Fillable, Filling, PutRow, PutsRow, Fills}
+use Rattle.finish.specs.Fill.{Fillable, Filling, PutRow, PutsRow, Fills}
 use Rattle.finish.proofs.SlotLaws.{slot-below, known-here, counted-next, few}
-
--- ---- the records of a product
-module _ {a : List ℕ} (k : Complete a) where
-  known-kind : {x : Site} → Leads a first x → x .at < declared a → (1 ≤ classAt a (x .at)) × (classAt a (x .at) ≤ 8) × (isGroup (groupAt a (x .at)) ≡ true)
-  unfolding isClass
-  known-kind {x} w h = let p = both (isClass (classAt a (x .at))) (isGroup (groupAt a (x .at))) (go (isClass (classAt a (x .at)) && isGroup (groupAt a (x .at))) refl) in
-      let q = both (leb 1 (classAt a (x .at))) (leb (classAt a (x .at)) 8) (p .0) in
-      (leb-true 1 (classAt a (x .at)) (q .0), leb-true (classAt a (x .at)) 8 (q .1), p .1)
-    where
-      go : (b : Bool) → isClass (classAt a (x .at)) && isGroup (groupAt a (x .at)) ≡ b → isClass (classAt a (x .at)) && isGroup (groupAt a (x .at)) ≡ true
-      go true e = e
-      go false e = absurd (k .clean (at (complete-fine k) x w (unknown (head-here k w h) e)) (omega (arith, whole-come k, head-here k w h)))
-
-  record-here : {x : Site} → Leads a first x → x .at < declared a → Record a (x .at)
-  record-here w h =
-      let s = sound-here k w h in
-      let q = known-kind w h in
-      record { least = s .least; most = omega (arith, s .most, whole-come k); one = q .0; eight = q .1; grouped = q .2 }
-
-  ahead : {x y : Site} → Leads a first x → (l : Leads a x y) → y .at ≡ declared a → Ahead a (x .at) (starts l)
-  ahead {x} w here e = none {i = x .at} (omega (arith, whole-come k))
-  ahead w (on s l) e = more (record-here w (omega (arith, s .least, leads-le l))) (ahead (snoc w s) l e)
-
-  main-headed : headed a ≡ true
-  main-headed = go (headed a) refl
-    where
-      go : (b : Bool) → headed a ≡ b → headed a ≡ true
-      go true e = e
-      go false e = absurd (complete-fine k (bad-header e) (omega arith))
-
-  main-parts : (classAt a 0 ≡ 1) × (groupAt a 0 ≡ 0) × (subclassAt a 0 ≡ 0) × (sizeAt a 0 ≡ 3307)
-  unfolding headed
-  main-parts =
-      let p = both (eqb (getD a 0 0) 1 && (eqb (getD a 1 0) 0 && eqb (getD a 2 0) 0)) (eqb (beAt a 4 4) 3307) main-headed in
-      let q = both (eqb (getD a 0 0) 1) (eqb (getD a 1 0) 0 && eqb (getD a 2 0) 0) (p .0) in
-      let r = both (eqb (getD a 1 0) 0) (eqb (getD a 2 0) 0) (q .1) in
-      (eqb-true (getD a 0 0) 1 (q .0), eqb-true (getD a 1 0) 0 (r .0), eqb-true (getD a 2 0) 0 (r .1), eqb-true (beAt a 4 4) 3307 (p .1))
-
-  zero-group : isGroup 0 ≡ true
-  unfolding isGroup
-  zero-group = refl
-
-  pub all-ahead : {c : ℕ} (v : Covered a c) → Ahead a 0 (0 ∷ starts (v .way))
-  all-ahead v =
-      let m = main-parts in
-      let r : Record a 0 = record { least = omega (arith, m .3); most = omega (arith, m .3, k .header); one = omega (arith, m .0); eight = omega (arith, m .0); grouped = ap isGroup (m .1) ∙ zero-group } in
-      let e : 0 + sizeAt a 0 ≡ 3307 = omega (arith, m .3) in
-      let n : Ahead a (0 + sizeAt a 0) (starts (v .way)) = rw e (ahead here (v .way) (v .ends)) in
-      more r n
+use Rattle.finish.proofs.AheadLaws.{ahead-step, ahead-stop, record-here, all-ahead}
 
 pub starts-count : {a : List ℕ} {x y : Site} (l : Leads a x y) → x .count + length (starts l) ≡ y .count
 starts-count here = omega arith
@@ -88,14 +32,6 @@ fillable k v h = record {
 }
 
 -- ---- a turn
-step : {a l : List ℕ} {i : ℕ} → Ahead a i l → i < length a → (m : List ℕ) × (l ≡ i ∷ m) × Record a i × Ahead a (i + sizeAt a i) m
-step (none h) g = absurd (omega arith)
-step (more {l = m} r n) g = (m, refl, r, n)
-
-stop : {a l : List ℕ} {i : ℕ} → Ahead a i l → length a ≤ i → l ≡ []
-stop (none h) g = refl
-stop (more r n) g = absurd (omega (arith, r .least, r .most))
-
 pub filling-first : {a : List ℕ} {rows : List (List ℕ)} {l counts : List ℕ} → Fillable a rows l → length counts ≡ 32768 → ((j : ℕ) → j < 32768 → getD counts j 0 ≡ 0) → Filling a rows l rows counts 0 0
 filling-first {l = l} q e z = record {
   asked = q;
@@ -118,22 +54,18 @@ told {a} {i = i} f r b = f .counted .each (classAt a i) (groupAt a i) (subclassA
 -- the record at hand
 pub record-at : {a : List ℕ} {rows₀ : List (List ℕ)} {l : List ℕ} {rows : List (List ℕ)} {counts : List ℕ} {k i : ℕ}
     → Filling a rows₀ l rows counts k i → i < length a → Record a i
-record-at f h = step (f .ahead) h .2
-
--- the size that is read there
-pub there : {a : List ℕ} {i : ℕ} → Record a i → sizeThere a i ≡ sizeAt a i
-there {a} {i} r = size-there a i (omega (arith, r .least, r .most))
+record-at f h = record-here (f .ahead) h
 
 pub filling-here : {a : List ℕ} {rows₀ : List (List ℕ)} {l : List ℕ} {rows : List (List ℕ)} {counts : List ℕ} {k i z : ℕ}
     → Filling a rows₀ l rows counts k i → i < length a → z ≡ sizeAt a i → PutRow a rows counts k i z
 filling-here {a} {i = i} f h e =
-    let t = step (f .ahead) h in
-    let r = t .2 in
+    let t = ahead-step (f .ahead) h in
+    let r = t .here in
     record {
       here = r;
       sized = e;
       small = f .asked .small;
-      place = omega (arith, f .total, ap length (t .1), f .asked .room, f .size);
+      place = omega (arith, f .total, ap length (t .is), f .asked .room, f .size);
       long = f .counted .long;
       few = λ b. omega (arith, told f r b, few a (classAt a i) (groupAt a i) (subclassAt a i) (f .before), f .done, f .low, f .asked .small);
     }
@@ -141,21 +73,21 @@ filling-here {a} {i = i} f h e =
 pub filling-next : {a : List ℕ} {rows₀ : List (List ℕ)} {l : List ℕ} {rows : List (List ℕ)} {counts : List ℕ} {k i z : ℕ} {rows′ : List (List ℕ)} {counts′ : List ℕ}
     → Filling a rows₀ l rows counts k i → i < length a → z ≡ sizeAt a i → PutsRow a rows counts k i rows′ counts′ → Filling a rows₀ l rows′ counts′ (k + 1) (i + z)
 filling-next {a} {rows₀} {l} {rows} {counts} {k} {i} f h d p =
-    let t = step (f .ahead) h in
-    let m = t .0 in
-    let r = t .2 in
+    let t = ahead-step (f .ahead) h in
+    let m = t .rest in
+    let r = t .here in
     let e = told f r (p .byte) in
     let s : put k (rowsAfter a (f .before) (i ∷ m)) rows ≡ put 0 (rowsOf a l) rows₀ =
-    ap (λ (x : List ℕ). put k (rowsAfter a (f .before) x) rows) (sym (t .1)) ∙ f .same in
+    ap (λ (x : List ℕ). put k (rowsAfter a (f .before) x) rows) (sym (t .is)) ∙ f .same in
     rw (d, p .row, p .counter) (record {
       asked = f .asked;
       before = i ∷ f .before;
       rest = m;
-      ahead = t .3;
+      ahead = t .on;
       counted = counted-next (f .counted) r (p .byte);
       done = omega (arith, f .done);
       low = omega (arith, f .low, r .least);
-      total = omega (arith, f .total, ap length (t .1));
+      total = omega (arith, f .total, ap length (t .is));
       size = simp length-set (f .size);
       same = ap (λ (n : ℕ). put (k + 1) (rowsAfter a (i ∷ f .before) m) (set rows k (row a i n))) e ∙ s;
     })
@@ -163,7 +95,7 @@ filling-next {a} {rows₀} {l} {rows} {counts} {k} {i} f h d p =
 pub filling-last : {a : List ℕ} {rows₀ : List (List ℕ)} {l : List ℕ} {rows : List (List ℕ)} {counts : List ℕ} {k i : ℕ}
     → Filling a rows₀ l rows counts k i → length a ≤ i → (k ≡ length l) × (rows ≡ put 0 (rowsOf a l) rows₀)
 filling-last {a} {rows = rows} {k = k} f h =
-    let e = stop (f .ahead) h in
+    let e = ahead-stop (f .ahead) h in
     (omega (arith, f .total, ap length e), ap (λ (x : List ℕ). put k (rowsAfter a (f .before) x) rows) (sym e) ∙ f .same)
 
 -- ---- a stretch of records of one size
@@ -214,3 +146,9 @@ filled k v h f =
 
 pub refused-with : (a : List ℕ) (rows : List (List ℕ)) {n p : ℕ} {r : Finished} → r ≡ refusedWith n p → Refuses a (length rows) n p → FinishedIs a rows r rows
 refused-with a rows e q = rw e (q, refl)
+
+pub refused-by : (p : List (List ℕ)) (a : List ℕ) (rows : List (List ℕ)) {n q : ℕ} {r : Finished} → r ≡ refusedWith n q → RefusesBy p a (length rows) n q → RowsBy p a rows r rows
+refused-by p a rows e q = rw e (q, refl)
+
+pub unfit-with : {a : List ℕ} {n p : ℕ} {r : Finished} → r ≡ refusedWith n p → Unfit a n p → VerdictIs a r
+unfit-with e q = rw e q

@@ -1,4 +1,6 @@
 pub mod SlotLaws
+pub mod AheadLaws
+pub mod ProfileLaws
 pub mod Filling
 pub mod Places
 pub mod Starts

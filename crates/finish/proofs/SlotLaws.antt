@@ -14,7 +14,7 @@ use Rattle.record.specs.Header.{isGroup}
 use Rattle.judge.specs.Table.{classAt}
 use Rattle.finish.specs.Rows.{groupAt, subclassAt, isOf, howMany}
 use Rattle.finish.specs.Slots.{Known, columnOf, slotOf, SlotIs, slotAt, Counted}
-use Rattle.finish.specs.Fill.{Record}
+use Rattle.finish.specs.Ahead.{Record}
 
 -- ---- columns
 pub last-column : (g : ℕ) → g ≡ 99 → columnOf g ≡ 14

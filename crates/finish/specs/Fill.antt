@@ -1,29 +1,15 @@
 -- What is known while the list of rows is filled. No promise names these: they say what a store has come to. Assumes nothing.
 use Prim.Native.Nat.{ℕ, _+_, _≤_, _<_}
 use mathlib.Core.Path.{_≡_}
-use mathlib.Core.Bool.{true}
 use mathlib.Core.List.{List, [], _∷_}
 use lib.ListN.{length, getD, set}
-use Rattle.record.specs.Header.{isGroup}
-use Rattle.judge.specs.Table.{classAt, sizeAt}
+use Rattle.judge.specs.Table.{sizeAt}
 use Rattle.judge.specs.Stretch.{Even}
-use Rattle.finish.specs.Rows.{groupAt, subclassAt, row, rowsAfter, rowsOf}
+use Rattle.finish.specs.Ahead.{Record, Ahead}
+use Rattle.finish.specs.Rows.{subclassAt, row, rowsAfter, rowsOf}
 use Rattle.finish.specs.Finish.{put}
 use Rattle.finish.specs.Slots.{slotAt, Counted}
 use Rattle.finish.specs.declared.fill.Reached.{Reached}
-
--- a record of a product, at byte i
-pub record Record (a : List ℕ) (i : ℕ) : Type 0 where
-  pub least : 20 ≤ sizeAt a i
-  pub most : i + sizeAt a i ≤ length a
-  pub one : 1 ≤ classAt a i
-  pub eight : classAt a i ≤ 8
-  pub grouped : isGroup (groupAt a i) ≡ true
-
--- the records from byte i to the end start at the bytes l
-pub data Ahead (a : List ℕ) : ℕ → List ℕ → Type 0 where
-  none : {i : ℕ} → length a ≤ i → Ahead a i []
-  more : {i : ℕ} {l : List ℕ} → Record a i → Ahead a (i + sizeAt a i) l → Ahead a i (i ∷ l)
 
 -- what the filling asks of the product, whose records start at the bytes l, and of the list of rows
 pub record Fillable (a : List ℕ) (rows : List (List ℕ)) (l : List ℕ) : Type 0 where

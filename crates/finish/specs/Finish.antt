@@ -9,6 +9,8 @@ use Rattle.calendar.specs.Said.{refusing}
 use Rattle.judge.specs.Table.{Site, Leads, here, on, Clean, Given}
 use Rattle.judge.specs.Extent.{Short, Complete, Covered}
 use Rattle.finish.specs.Rows.{rowsOf}
+use Rattle.finish.specs.Profile.{firstAgainst}
+use Rattle.finish.specs.declared.profile.Against.the-variants.{Nowhere, At}
 use Rattle.finish.specs.declared.Finished.{Finished}
 use Rattle.finish.specs.declared.Finished.the-variants.{Accepted, Refused}
 
@@ -29,6 +31,16 @@ pub data Refuses (a : List ℕ) (room : ℕ) : ℕ → ℕ → Type 0 where
   short : Clean a → Short a → Refuses a room 17 (length a)
   no-room : {c : ℕ} → Complete a → Covered a c → room < c → Refuses a room 18 c
 
+-- THE VERDICT (02, Fourteen: "Split it into a verdict and a row lister that takes an accepted product; the lister judges for itself and hands refusals
+-- on"): 1 to 17, or accepted with the count
+pub data Unfit (a : List ℕ) : ℕ → ℕ → Type 0 where
+  faulty : {n p : ℕ} → Given a n p → Unfit a n p
+  short : Clean a → Short a → Unfit a 17 (length a)
+
+abbrev pub VerdictIs : List ℕ → Finished → Type 0
+VerdictIs a (Accepted c) = Complete a × Covered a c
+VerdictIs a (Refused r) = Unfit a (r .number) (r .place)
+
 -- the list has become rows′: the main header's row first, then the others'; what stood at the other places is kept
 pub record Filled (a : List ℕ) (rows : List (List ℕ)) (c : ℕ) (rows′ : List (List ℕ)) : Type 0 where
   pub covered : Covered a c
@@ -46,3 +58,19 @@ FinishedIs a rows (Refused r) rows′ = Refuses a (length rows) (r .number) (r .
 
 abbrev pub refusedWith : ℕ → ℕ → Finished
 refusedWith n p = Refused (refusing n p)
+
+-- ---- BY A PROFILE (02, Nine: "A profile judge takes the finished judge's verdict first and then those tables"; "29, record against the profile, place
+-- the first such record, after 17 and before 18")
+pub data RefusesBy (p : List (List ℕ)) (a : List ℕ) (room : ℕ) : ℕ → ℕ → Type 0 where
+  faulty : {n q : ℕ} → Given a n q → RefusesBy p a room n q
+  short : Clean a → Short a → RefusesBy p a room 17 (length a)
+  against : {c q : ℕ} → Complete a → (v : Covered a c) → firstAgainst p a (0 ∷ starts (v .way)) ≡ At q → RefusesBy p a room 29 q
+  no-room : {c : ℕ} → Complete a → (v : Covered a c) → firstAgainst p a (0 ∷ starts (v .way)) ≡ Nowhere → room < c → RefusesBy p a room 18 c
+
+pub record AcceptsBy (p : List (List ℕ)) (a : List ℕ) (rows : List (List ℕ)) (c : ℕ) (rows′ : List (List ℕ)) : Type 0 where
+  pub accepts : Accepts a rows c rows′
+  pub allowed : firstAgainst p a (0 ∷ starts (accepts .filled .covered .way)) ≡ Nowhere
+
+abbrev pub RowsBy : List (List ℕ) → List ℕ → List (List ℕ) → Finished → List (List ℕ) → Type 0
+RowsBy p a rows (Accepted c) rows′ = AcceptsBy p a rows c rows′
+RowsBy p a rows (Refused r) rows′ = RefusesBy p a (length rows) (r .number) (r .place) × (rows′ ≡ rows)

@@ -1,13 +1,21 @@
-// The finished judge: the arrival judge's refusals, then 17 and 18; where it accepts, a row for each record goes into the lent list.
+// Finished products: the verdict, which is the arrival judge's refusals and then 17; and the lister, which judges for itself and then gives 18, or fills a row
+// for each record into the lent list, by a profile where one is asked for.
 mod fill;
+mod profile;
 mod row;
 
 use crate::fill::fill;
+use crate::profile::Against;
+use crate::profile::first_against;
 pub use calendar::Refusal;
 use judge::arrival::Extent;
+use judge::arrival::judge_extent;
 use judge::arrival::survey;
+use judge::stretch::Stretch as Even;
 ghost use mathlib.Core.Path.{_≡_};
-ghost use Rattle.finish.specs.Finish.{FinishedIs, refusedWith};
+ghost use Rattle.judge.specs.Extent.{Complete, Covered};
+ghost use Rattle.judge.specs.Stretch.{StretchIs};
+ghost use Rattle.finish.specs.Finish.{VerdictIs, FinishedIs, RowsBy, refusedWith};
 
 pub enum Finished {
     Accepted { count: usize },
@@ -20,8 +28,33 @@ fn refused(number: u8, place: usize) -> Finished
     Finished::Refused(Refusal { number, place })
 }
 
-// What is to be said of a finished product, whose records' rows go into the list where it is accepted.
-pub fn judge_finished(s: &[u8], rows: &mut [[u32; 7]]) -> Finished
+// The rows of a product that is complete, where the room is enough.
+fn put_rows(s: &[u8], rows: &mut [[u32; 7]], count: usize, even: Even) -> Finished
+    requires { ⌜ Complete (now s) × Covered (now s) count × StretchIs (now s) even ⌝ }
+    ensures { λ r. ⌜ FinishedIs (now (s .entry)) (now (rows .entry)) r (now (rows .exit)) ⌝ }
+{
+    if rows.len() < count {
+        return refused(18, count);
+    }
+    let mut counts = [0u32; 32768];
+    Finished::Accepted {
+        count: fill(s, rows, &mut counts, even),
+    }
+}
+
+// The verdict of a finished product: its refusal, 1 to 17, or accepted with the count of its records.
+pub fn verdict(s: &[u8]) -> Finished
+    ensures { λ r. ⌜ VerdictIs (now (s .entry)) r ⌝ }
+{
+    match judge_extent(s) {
+        Extent::Refused(r) => Finished::Refused(r),
+        Extent::Part => refused(17, s.len()),
+        Extent::Entire { count } => Finished::Accepted { count },
+    }
+}
+
+// The row lister: it judges for itself, and the rows of an accepted product's records go into the list.
+pub fn rows(s: &[u8], rows: &mut [[u32; 7]]) -> Finished
     ensures { λ r. ⌜ FinishedIs (now (s .entry)) (now (rows .entry)) r (now (rows .exit)) ⌝ }
 {
     let surveyed = survey(s);
@@ -30,14 +63,23 @@ pub fn judge_finished(s: &[u8], rows: &mut [[u32; 7]]) -> Finished
     match extent {
         Extent::Refused(r) => Finished::Refused(r),
         Extent::Part => refused(17, s.len()),
-        Extent::Entire { count } => {
-            if rows.len() < count {
-                return refused(18, count);
-            }
-            let mut counts = [0u32; 32768];
-            Finished::Accepted {
-                count: fill(s, rows, &mut counts, even),
-            }
-        }
+        Extent::Entire { count } => put_rows(s, rows, count, even),
+    }
+}
+
+// The same by a profile: 29 at the first record that is against it, before 18.
+pub fn rows_by(s: &[u8], profile: &[[u8; 6]], rows: &mut [[u32; 7]]) -> Finished
+    ensures { λ r. ⌜ RowsBy (now (profile .entry)) (now (s .entry)) (now (rows .entry)) r (now (rows .exit)) ⌝ }
+{
+    let surveyed = survey(s);
+    let even = surveyed.stretch;
+    let extent = surveyed.extent;
+    match extent {
+        Extent::Refused(r) => Finished::Refused(r),
+        Extent::Part => refused(17, s.len()),
+        Extent::Entire { count } => match first_against(s, profile) {
+            Against::At(place) => refused(29, place),
+            Against::Nowhere => put_rows(s, rows, count, even),
+        },
     }
 }

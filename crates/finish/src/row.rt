@@ -8,7 +8,8 @@ ghost use Rattle.record.specs.Header.{isGroup};
 ghost use Rattle.judge.specs.Table.{sizeAt};
 ghost use Rattle.finish.specs.Rows.{row};
 ghost use Rattle.finish.specs.Slots.{columnOf, SlotIs};
-ghost use Rattle.finish.specs.Fill.{Record, PutRow, PutsRow};
+ghost use Rattle.finish.specs.Ahead.{Record};
+ghost use Rattle.finish.specs.Fill.{PutRow, PutsRow};
 
 fn wide(x: u8) -> usize
     ensures { λ r. ⌜ r ≡ x ⌝ }

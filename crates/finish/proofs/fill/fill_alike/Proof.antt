@@ -7,8 +7,10 @@ use mathlib.Core.Path.{_≡_, sym, _∙_}
 use borrow.Author.Needs.{needs}
 use lib.ListN.{length}
 use Rattle.judge.specs.Table.{sizeAt}
-use Rattle.finish.specs.Fill.{Filling, Record}
-use Rattle.finish.proofs.Filling.{record-at, there, filling-here, filling-next, Alike, moved-on, less}
+use Rattle.finish.specs.Ahead.{Record}
+use Rattle.finish.specs.Fill.{Filling}
+use Rattle.finish.proofs.AheadLaws.{there}
+use Rattle.finish.proofs.Filling.{record-at, filling-here, filling-next, Alike, moved-on, less}
 use Rattle.finish.proofs.fill.fill_alike.Statement.{statement}
 use Rattle.finish.proofs.fill.fill_alike.Tie as tie
 

@@ -6,7 +6,8 @@ use denote.Ref.{now}
 use mathlib.Core.Path.{_≡_, sym, _∙_}
 use lib.ListN.{length}
 use Rattle.judge.specs.Table.{sizeAt}
-use Rattle.finish.specs.Fill.{Filling, Record}
+use Rattle.finish.specs.Ahead.{Record}
+use Rattle.finish.specs.Fill.{Filling}
 use Rattle.finish.proofs.Filling.{record-at, filling-here, filling-next, Evenly, even-step, less}
 use Rattle.finish.proofs.fill.fill_even.Statement.{statement}
 use Rattle.finish.proofs.fill.fill_even.Tie as tie

@@ -7,11 +7,14 @@ use mathlib.Core.List.{List, [], _∷_}
 use lib.ListN.{length, getD, set, length-set}
 use Rattle.mphr.proofs.Export.{sized}
 use Rattle.judge.specs.Table.{Site, classAt, sizeAt, Leads, here, on}
-use Rattle.judge.specs.Extent.{Complete, Covered}
+use Rattle.judge.specs.Extent.{Complete, Covered, ExtentIs}
+use Rattle.judge.specs.declared.arrival.Extent.{Extent}
+use Rattle.judge.specs.declared.arrival.Extent.the-variants as X
 use Rattle.judge.specs.Stretch.{over, further}
 use Rattle.judge.specs.Stretch as J
 use Rattle.judge.proofs.Covering.{complete-fine, whole-come}
-use Rattle.finish.specs.Finish.{starts, put, Refuses, Accepts, FinishedIs, RowsBy, RefusesBy, Unfit, VerdictIs, refusedWith}
+use Rattle.finish.specs.Finish.{starts, put, Refuses, Accepts, FinishedIs, RowsBy, RefusesBy, VerdictIs, judgedAs, refusedWith}
+use Rattle.finish.specs.Finish as F
 use Rattle.finish.specs.declared.Finished.{Finished}
 use Rattle.finish.specs.Ahead.{Record, Ahead}
 use Rattle.finish.specs.Rows.{groupAt, subclassAt, ordinal, row, rowsAfter, rowsOf}
@@ -150,5 +153,8 @@ refused-with a rows e q = rw e (q, refl)
 pub refused-by : (p : List (List ℕ)) (a : List ℕ) (rows : List (List ℕ)) {n q : ℕ} {r : Finished} → r ≡ refusedWith n q → RefusesBy p a (length rows) n q → RowsBy p a rows r rows
 refused-by p a rows e q = rw e (q, refl)
 
-pub unfit-with : {a : List ℕ} {n p : ℕ} {r : Finished} → r ≡ refusedWith n p → Unfit a n p → VerdictIs a r
-unfit-with e q = rw e q
+-- ---- the verdict, by the arrival judge's answer
+pub judged-is : (a : List ℕ) (x : Extent) (r : Finished) → r ≡ judgedAs x (length a) → ExtentIs a x → VerdictIs a r
+judged-is a (X.Refused q) r e f = rw e (F.faulty f)
+judged-is a X.Part r e f = rw e (F.short (f .0) (f .1))
+judged-is a (X.Entire c) r e f = rw e f

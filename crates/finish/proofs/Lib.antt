@@ -5,3 +5,4 @@ pub mod Filling
 pub mod Places
 pub mod Starts
 pub mod Ordinals
+pub mod InTurn

@@ -17,8 +17,9 @@ use Rattle.finish.specs.Rows.{groupAt, subclassAt, versionAt}
 use Rattle.finish.specs.Profile.{isLet, lets, speaks, allows, isAllowed, firstAgainst, Going, Passes, AgainstIs}
 use Rattle.finish.specs.declared.profile.Against.{Against}
 use Rattle.finish.specs.declared.profile.Against.the-variants.{Nowhere, At}
+use Rattle.calendar.specs.declared.Refusal.{Refusal}
 use Rattle.judge.specs.Extent.{Complete, Covered}
-use Rattle.finish.specs.Finish.{FinishedIs, Refuses, RefusesBy, against, RowsBy}
+use Rattle.finish.specs.Finish.{starts, FinishedIs, VerdictIs, Refuses, Unfit, RefusesBy, against, RowsBy}
 use Rattle.finish.specs.Finish as F
 use Rattle.finish.specs.declared.Finished.{Finished}
 use Rattle.finish.specs.declared.Finished.the-variants.{Accepted, Refused}
@@ -152,3 +153,34 @@ by-place p room k v e = against k v (sym (e _ (all-ahead k v)))
 
 pub product-going : {a : List ℕ} {c : ℕ} → Complete a → Covered a c → Going a 0
 product-going k v = record { starts = _; ahead = all-ahead k v }
+
+pub none-against : (a l : List ℕ) → firstAgainst [] a l ≡ Nowhere
+none-against a [] = refl
+none-against a (i ∷ l) = none-against a l
+
+pub empty-against : (p : List (List ℕ)) (a : List ℕ) → length p ≡ 0 → AgainstIs p a Nowhere
+empty-against [] a e l w = sym (none-against a l)
+empty-against (q ∷ p) a e l w = absurd (omega arith)
+
+-- the verdict's refusal is handed on
+pub by-unfit : (p : List (List ℕ)) {a : List ℕ} {n q : ℕ} (room : ℕ) → Unfit a n q → RefusesBy p a room n q
+by-unfit p room (F.faulty g) = F.faulty g
+by-unfit p room (F.short c h) = F.short c h
+
+pub by-verdict :
+    (p : List (List ℕ)) (a : List ℕ) (rows : List (List ℕ)) (r : Finished) (q : Refusal) → r ≡ Refused q → VerdictIs a r → RowsBy p a rows r rows
+by-verdict p a rows r q e f = rw e (by-unfit p (length rows) (rw e at f), refl)
+
+-- ---- NO PROFILE: nothing is against it, so the lister by it is the lister
+pub by-none : (a : List ℕ) (rows : List (List ℕ)) (r : Finished) (rows′ : List (List ℕ)) → RowsBy [] a rows r rows′ → FinishedIs a rows r rows′
+by-none a rows (Accepted c) rows′ f = f .accepts
+by-none a rows (Refused r) rows′ (q, e) = (go q, e)
+  where
+    never : {x : Against} {j : ℕ} → x ≡ Nowhere → x ≡ At j → ⊥
+    never e d = let z : _≡_ {A = ℕ} 0 1 = cc in omega arith
+
+    go : {n m : ℕ} → RefusesBy [] a (length rows) n m → Refuses a (length rows) n m
+    go (F.faulty g) = F.faulty g
+    go (F.short c h) = F.short c h
+    go (against k v d) = absurd (never (none-against a (0 ∷ starts (v .way))) d)
+    go (F.no-room k v d h) = F.no-room k v h

@@ -5,9 +5,12 @@ use Prim.Native.Nat.{ℕ, _+_, _≤_, _<_}
 use mathlib.Core.Path.{_≡_}
 use mathlib.Core.List.{List, [], _∷_}
 use lib.ListN.{length, set}
+use Rattle.calendar.specs.declared.Refusal.{Refusal}
 use Rattle.calendar.specs.Said.{refusing}
 use Rattle.judge.specs.Table.{Site, Leads, here, on, Clean, Given}
 use Rattle.judge.specs.Extent.{Short, Complete, Covered}
+use Rattle.judge.specs.declared.arrival.Extent.{Extent}
+use Rattle.judge.specs.declared.arrival.Extent.the-variants as X
 use Rattle.finish.specs.Rows.{rowsOf}
 use Rattle.finish.specs.Profile.{firstAgainst}
 use Rattle.finish.specs.declared.profile.Against.the-variants.{Nowhere, At}
@@ -41,6 +44,12 @@ abbrev pub VerdictIs : List ℕ → Finished → Type 0
 VerdictIs a (Accepted c) = Complete a × Covered a c
 VerdictIs a (Refused r) = Unfit a (r .number) (r .place)
 
+-- and by what the arrival judge says of a product of n bytes
+abbrev pub judgedAs : Extent → ℕ → Finished
+judgedAs (X.Refused r) n = Refused r
+judgedAs X.Part n = Refused (refusing 17 n)
+judgedAs (X.Entire c) n = Accepted c
+
 -- the list has become rows′: the main header's row first, then the others'; what stood at the other places is kept
 pub record Filled (a : List ℕ) (rows : List (List ℕ)) (c : ℕ) (rows′ : List (List ℕ)) : Type 0 where
   pub covered : Covered a c
@@ -55,6 +64,13 @@ pub record Accepts (a : List ℕ) (rows : List (List ℕ)) (c : ℕ) (rows′ : 
 abbrev pub FinishedIs : List ℕ → List (List ℕ) → Finished → List (List ℕ) → Type 0
 FinishedIs a rows (Accepted c) rows′ = Accepts a rows c rows′
 FinishedIs a rows (Refused r) rows′ = Refuses a (length rows) (r .number) (r .place) × (rows′ ≡ rows)
+
+-- THE TWO IN TURN (02, Fourteen: "The two in turn answer what the one did, 18 included"): the verdict's refusal is handed on; where it accepts with c, 18
+-- where the room is less, or the rows
+pub data InTurn (a : List ℕ) (rows : List (List ℕ)) : Finished → Finished → List (List ℕ) → Type 0 where
+  unfit : (r : Refusal) → InTurn a rows (Refused r) (Refused r) rows
+  little : {c : ℕ} (r : Refusal) → r .number ≡ 18 → r .place ≡ c → length rows < c → InTurn a rows (Accepted c) (Refused r) rows
+  listed : {c : ℕ} {rows′ : List (List ℕ)} → Filled a rows c rows′ → InTurn a rows (Accepted c) (Accepted c) rows′
 
 abbrev pub refusedWith : ℕ → ℕ → Finished
 refusedWith n p = Refused (refusing n p)

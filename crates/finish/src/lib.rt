@@ -15,7 +15,7 @@ use judge::stretch::Stretch as Even;
 ghost use mathlib.Core.Path.{_≡_};
 ghost use Rattle.judge.specs.Extent.{Complete, Covered};
 ghost use Rattle.judge.specs.Stretch.{StretchIs};
-ghost use Rattle.finish.specs.Finish.{VerdictIs, FinishedIs, RowsBy, refusedWith};
+ghost use Rattle.finish.specs.Finish.{judgedAs, VerdictIs, FinishedIs, RowsBy, refusedWith};
 
 pub enum Finished {
     Accepted { count: usize },
@@ -26,6 +26,24 @@ fn refused(number: u8, place: usize) -> Finished
     ensures { λ r. ⌜ r ≡ refusedWith number place ⌝ }
 {
     Finished::Refused(Refusal { number, place })
+}
+
+// What the arrival judge's answer comes to, of a finished product of `len` bytes.
+fn judged(extent: Extent, len: usize) -> Finished
+    ensures { λ r. ⌜ r ≡ judgedAs extent len ⌝ }
+{
+    match extent {
+        Extent::Refused(r) => Finished::Refused(r),
+        Extent::Part => refused(17, len),
+        Extent::Entire { count } => Finished::Accepted { count },
+    }
+}
+
+// The verdict of a finished product: its refusal, 1 to 17, or accepted with the count of its records.
+pub fn verdict(s: &[u8]) -> Finished
+    ensures { λ r. ⌜ VerdictIs (now (s .entry)) r ⌝ }
+{
+    judged(judge_extent(s), s.len())
 }
 
 // The rows of a product that is complete, where the room is enough.
@@ -42,44 +60,31 @@ fn put_rows(s: &[u8], rows: &mut [[u32; 7]], count: usize, even: Even) -> Finish
     }
 }
 
-// The verdict of a finished product: its refusal, 1 to 17, or accepted with the count of its records.
-pub fn verdict(s: &[u8]) -> Finished
-    ensures { λ r. ⌜ VerdictIs (now (s .entry)) r ⌝ }
-{
-    match judge_extent(s) {
-        Extent::Refused(r) => Finished::Refused(r),
-        Extent::Part => refused(17, s.len()),
-        Extent::Entire { count } => Finished::Accepted { count },
-    }
-}
-
-// The row lister: it judges for itself, and the rows of an accepted product's records go into the list.
-pub fn rows(s: &[u8], rows: &mut [[u32; 7]]) -> Finished
-    ensures { λ r. ⌜ FinishedIs (now (s .entry)) (now (rows .entry)) r (now (rows .exit)) ⌝ }
-{
-    let surveyed = survey(s);
-    let even = surveyed.stretch;
-    let extent = surveyed.extent;
-    match extent {
-        Extent::Refused(r) => Finished::Refused(r),
-        Extent::Part => refused(17, s.len()),
-        Extent::Entire { count } => put_rows(s, rows, count, even),
-    }
-}
-
-// The same by a profile: 29 at the first record that is against it, before 18.
+// The row lister: it judges for itself, and the rows of an accepted product's records go into the list. By a profile: 29 at the first record that is
+// against it, before 18.
 pub fn rows_by(s: &[u8], profile: &[[u8; 6]], rows: &mut [[u32; 7]]) -> Finished
     ensures { λ r. ⌜ RowsBy (now (profile .entry)) (now (s .entry)) (now (rows .entry)) r (now (rows .exit)) ⌝ }
 {
     let surveyed = survey(s);
     let even = surveyed.stretch;
     let extent = surveyed.extent;
-    match extent {
-        Extent::Refused(r) => Finished::Refused(r),
-        Extent::Part => refused(17, s.len()),
-        Extent::Entire { count } => match first_against(s, profile) {
-            Against::At(place) => refused(29, place),
-            Against::Nowhere => put_rows(s, rows, count, even),
-        },
+    let said = judged(extent, s.len());
+    let Finished::Accepted { count } = said else {
+        return said;
+    };
+    match first_against(s, profile) {
+        Against::At(place) => refused(29, place),
+        Against::Nowhere => put_rows(s, rows, count, even),
     }
+}
+
+// A profile is lent where one is asked for; of this one no line is.
+const NO_PROFILE: [[u8; 6]; 1] = [[0; 6]];
+
+// The row lister, by no profile.
+pub fn rows(s: &[u8], rows: &mut [[u32; 7]]) -> Finished
+    ensures { λ r. ⌜ FinishedIs (now (s .entry)) (now (rows .entry)) r (now (rows .exit)) ⌝ }
+{
+    let none: usize = 0;
+    rows_by(s, &NO_PROFILE[..none], rows)
 }

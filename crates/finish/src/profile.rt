@@ -101,6 +101,9 @@ pub(crate) fn first_against(s: &[u8], profile: &[[u8; 6]]) -> Against
     requires { ⌜ Going (now s) 0 ⌝ }
     ensures { λ r. ⌜ AgainstIs (now (profile .entry)) (now (s .entry)) r ⌝ }
 {
+    if profile.len() == 0 {
+        return Against::Nowhere;
+    }
     let mut at: usize = 0;
     while at < s.len() {
         if !is_allowed(profile, s[at], s[at + 1], s[at + 2], s[at + 3]) {

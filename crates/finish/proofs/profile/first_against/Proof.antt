@@ -5,7 +5,7 @@ use mathlib.Core.Path.{_≡_, sym, _∙_}
 use lib.ListN.{length}
 use borrow.Author.Needs.{needs}
 use borrow.Author.Tests.{not-true, not-false}
-use Rattle.finish.proofs.ProfileLaws.{Asked, asked-first, asked-record, asked-stop, asked-next, asked-last}
+use Rattle.finish.proofs.ProfileLaws.{Asked, asked-first, asked-record, asked-stop, asked-next, asked-last, empty-against}
 use Rattle.finish.proofs.profile.first_against.Statement.{statement}
 use Rattle.finish.proofs.profile.first_against.Tie as tie
 
@@ -15,14 +15,17 @@ Inv-loop s profile at₀ at = Asked profile s at
 abbrev μ-loop : tie.MeasureT-loop
 μ-loop s profile at₀ at = length s - at
 
-come : (c : tie.In-loop Inv-loop μ-loop) → c .before .loop .at + 20 ≤ length (c .before .before .before .args .s .now)
+come : (c : tie.In-loop Inv-loop μ-loop) → c .before .loop .at + 20 ≤ length (c .before .before .before .before .args .s .now)
 come c = let r = asked-record (c .before .loop .inv) (c .loop-test .taken) in omega (arith, r .least, r .most)
 
 abbrev L : tie.After-is-allowed Inv-loop μ-loop → tie.In-loop Inv-loop μ-loop
 L c = c .before .before .before .before .before
 
+returns : tie.Need-returns Inv-loop μ-loop
+returns c = let s = c .before .before in empty-against (s .args .profile .now) (s .args .s .now) (c .if1 .taken)
+
 loop-holds : tie.Need-loop-holds Inv-loop μ-loop
-loop-holds c = asked-first (c .before .args .profile .now) (c .before .pre)
+loop-holds c = let s = c .before .before in asked-first (s .args .profile .now) (s .pre)
 
 add-is-allowed : tie.Need-add-is-allowed Inv-loop μ-loop
 add-is-allowed c = omega (arith, come (c .before))
@@ -42,11 +45,11 @@ add-is-allowed-3 c = omega (arith, come (c .before .before .before))
 read-4 : tie.Need-shared-slice-read-is-allowed-4 Inv-loop μ-loop
 read-4 c = omega (arith, come (c .before .before .before .before))
 
-returns : tie.Need-returns Inv-loop μ-loop
-returns c =
+returns-2 : tie.Need-returns-2 Inv-loop μ-loop
+returns-2 c =
     let q = c .before in
     let l = L q in
-    asked-stop (l .before .loop .inv) (l .loop-test .taken) (sym (q .is-allowed .ensures) ∙ not-true (q .is-allowed .result) (c .if1 .taken))
+    asked-stop (l .before .loop .inv) (l .loop-test .taken) (sym (q .is-allowed .ensures) ∙ not-true (q .is-allowed .result) (c .if2 .taken))
 
 pass-alike-requires : tie.Need-pass-alike-requires Inv-loop μ-loop
 pass-alike-requires c κs = let l = L (c .before) in (l .before .loop .inv .left, l .loop-test .taken)
@@ -58,10 +61,10 @@ loop-again : tie.Need-loop-again Inv-loop μ-loop
 loop-again c =
     let e = c .before in
     let q = e .before in
-    asked-next (L q .before .loop .inv) _ (sym (q .is-allowed .ensures) ∙ not-false (q .is-allowed .result) (e .if1 .left)) (c .pass-alike .ensures .0)
+    asked-next (L q .before .loop .inv) _ (sym (q .is-allowed .ensures) ∙ not-false (q .is-allowed .result) (e .if2 .left)) (c .pass-alike .ensures .0)
 
-returns-2 : tie.Need-returns-2 Inv-loop μ-loop
-returns-2 c = asked-last (c .before .loop .inv) (c .loop-test .left)
+returns-3 : tie.Need-returns-3 Inv-loop μ-loop
+returns-3 c = asked-last (c .before .loop .inv) (c .loop-test .left)
 
 pub first-against-spec : {M : Type 1} → statement M
 first-against-spec =
@@ -69,6 +72,7 @@ first-against-spec =
     (tie.spec
     Inv-loop
     μ-loop
+    returns
     loop-holds
     (λ c. search needs)
     add-is-allowed
@@ -78,8 +82,8 @@ first-against-spec =
     add-is-allowed-3
     read-4
     (λ c κs. search needs)
-    returns
+    returns-2
     pass-alike-requires
     loop-less
     loop-again
-    returns-2)
+    returns-3)

@@ -27,7 +27,7 @@ use Rattle.judge.specs.declared.arrival.Extent.{Extent}
 use Rattle.judge.specs.declared.arrival.Extent.the-variants as X
 use Rattle.judge.specs.Extent.{ExtentIs, Complete, Covered}
 use Rattle.finish.specs.Rows.{rowsOf}
-use Rattle.finish.specs.Finish.{starts, put, Refuses, faulty, short, no-room, FinishedIs}
+use Rattle.finish.specs.Finish.{starts, put, Refuses, Unfit, faulty, short, no-room, VerdictIs, FinishedIs}
 use Rattle.demands.specs.Product.{class, kind, size, targetKind, offset, MainHeader, IsRecord, Aims, Records, none, more, ofClass, Meets}
 use Rattle.finish.specs.declared.Finished.{Finished}
 use Rattle.finish.specs.declared.Finished.the-variants.{Accepted, Refused}
@@ -434,3 +434,20 @@ unique-extent a (X.Entire c) (X.Refused s) (k, v) g = absurd (not-clean g (k .cl
 unique-extent a (X.Refused r) X.Part f g = absurd (not-clean f (g .0))
 unique-extent a (X.Refused r) (X.Entire d) f (l, w) = absurd (not-clean f (l .clean))
 unique-extent a (X.Refused r) (X.Refused s) f g = let u = unique-given f g in ap X.Refused (same-refusal r s (u .0) (u .1))
+
+-- ---- the verdict
+no-verdict : {a : List ℕ} {n p : ℕ} → Complete a → Unfit a n p → ⊥
+no-verdict k (faulty g) = not-clean g (k .clean)
+no-verdict k (short c s) = ⊎-elim (λ z. omega (arith, k .header)) (λ z. omega (arith, k .come)) s
+
+pub unique-verdict : (a : List ℕ) (r s : Finished) → VerdictIs a r → VerdictIs a s → r ≡ s
+unique-verdict a (Accepted c) (Accepted d) (k, v) (l, w) = ap Accepted (omega (arith, v .counted, w .counted, same-way (v .way) (w .way) (v .ends ∙ sym (w .ends)) .1))
+unique-verdict a (Accepted c) (Refused s) (k, v) g = absurd (no-verdict k g)
+unique-verdict a (Refused r) (Accepted d) f (l, w) = absurd (no-verdict l f)
+unique-verdict a (Refused r) (Refused s) f g = let u = go f g in ap Refused (same-refusal r s (u .0) (u .1))
+  where
+    go : {n p n′ p′ : ℕ} → Unfit a n p → Unfit a n′ p′ → (n ≡ n′) × (p ≡ p′)
+    go (faulty g) (faulty h) = unique-given g h
+    go (faulty g) (short c s) = absurd (not-clean g c)
+    go (short c s) (faulty g) = absurd (not-clean g c)
+    go (short c s) (short c′ s′) = (refl, refl)

@@ -1,5 +1,5 @@
 -- The walk over the records of a product that is complete: the lines of the records that are left, counted or written, give the whole listing.
--- By the way from the record at hand to the product's end. Assumes nothing.
+-- By the law of the walk (finish, AheadLaws). Assumes nothing.
 use Prim.Native.Nat.{ℕ, _+_, _-_, _*_, _≤_, _<_}
 use native.Mathlib.Omega.{arith}
 use mathlib.Core.Path.{_≡_, refl, sym, ap, _∙_}
@@ -7,11 +7,11 @@ use mathlib.Core.List.{List, [], _∷_, _++_, append-assoc}
 use lib.ListN.{length, getD, length-append}
 use lib.Seq.{sets}
 use Rattle.mphr.specs.Layout.{bytesOf}
-use Rattle.judge.specs.Table.{Site, site, first, classAt, sizeAt, oneMore, Leads, here, on, next}
-use Rattle.judge.specs.Extent.{Complete, Covered}
+use Rattle.judge.specs.Table.{sizeAt}
+use Rattle.judge.specs.Extent.{Covered}
 use Rattle.finish.specs.Finish.{starts}
-use Rattle.judge.proofs.WayLaws.{leads-le, goes}
-use Rattle.judge.proofs.Covering.{whole-come}
+use Rattle.finish.specs.Ahead.{Record, Ahead}
+use Rattle.finish.proofs.AheadLaws.{ahead-step, ahead-stop, record-here, ahead-first}
 use Rattle.listing.specs.Decimal.{decimal, column, Puts}
 use Rattle.listing.specs.Listing.{line, lines, listing, Listable, Needs, Roomy, Full}
 use Rattle.listing.proofs.ColumnLaws.{column-length}
@@ -27,50 +27,12 @@ pub line-length :
 unfolding line
 line-length a i = simp length-append (omega arith)
 
--- ---- the records that are left, from the one at byte i on
-pub record Left {a : List ℕ} {c : ℕ} (v : Covered a c) (i : ℕ) : Type 0 where
-  pub count : ℕ
-  pub prev : ℕ
-  pub tally : List ℕ
-  pub rest : Leads a (site count i prev tally) (v .last)
-
-abbrev pub all-left : {a : List ℕ} {c : ℕ} (v : Covered a c) → Left v 3307
-all-left v = record { count = first .count; prev = first .prev; tally = first .tally; rest = v .way }
-
--- the record at byte i lies in the product
-pub record Within (a : List ℕ) (i : ℕ) : Type 0 where
-  pub least : 20 ≤ sizeAt a i
-  pub most : i + sizeAt a i ≤ length a
-
-ends-at : {a : List ℕ} {c : ℕ} → Complete a → (v : Covered a c) → v .last .at ≡ length a
-ends-at k v = v .ends ∙ sym (whole-come k)
-
-pub within : {a : List ℕ} {c i : ℕ} {v : Covered a c} → Complete a → Left v i → i < length a → Within a i
-within {v = v} k l h =
-    let e = goes (l .rest) (omega (arith, ends-at k v)) in
-    record { least = e .0 .least; most = omega (arith, e .0 .most, whole-come k) }
-
-step : {a : List ℕ} {x y : Site} (l : Leads a x y) → x .at < y .at → (m : Leads a (next a x) y) × (starts l ≡ x .at ∷ starts m)
-step here h = absurd (omega arith)
-step (on s l) h = (l, refl)
-
-over : {a : List ℕ} {x y : Site} (l : Leads a x y) → y .at ≤ x .at → starts l ≡ []
-over here h = refl
-over (on s l) h = absurd (omega (arith, s .least, leads-le l))
-
-pub left-next : {a : List ℕ} {c i : ℕ} {v : Covered a c} → Complete a → (l : Left v i) → i < length a → (m : Left v (i + sizeAt a i)) × (starts (l .rest) ≡ i ∷ starts (m .rest))
-left-next {a} {i = i} {v = v} k l h =
-    let m = step (l .rest) (omega (arith, ends-at k v)) in
-    (record { count = l .count + 1; prev = classAt a i; tally = oneMore (l .tally) (classAt a i); rest = m .0 }, m .1)
-
-pub left-none : {a : List ℕ} {c i : ℕ} {v : Covered a c} → Complete a → (l : Left v i) → length a ≤ i → starts (l .rest) ≡ []
-left-none {v = v} k l h = over (l .rest) (omega (arith, ends-at k v))
-
 -- ---- counting
 -- n bytes are counted; with the lines that are left they are all
 pub record Counting {a : List ℕ} {c : ℕ} (v : Covered a c) (n i : ℕ) : Type 0 where
-  pub left : Left v i
-  pub same : n + length (lines a (starts (left .rest))) ≡ length (listing v)
+  pub left : List ℕ
+  pub ahead : Ahead a i left
+  pub same : n + length (lines a left) ≡ length (listing v)
 
 pub record Counted (a : List ℕ) (c n i : ℕ) : Type 0 where
   pub asked : Listable a c
@@ -93,38 +55,41 @@ counted-first {a} {c} {p} {z} q e h f l = record { asked = q; small = omega arit
   where
     go : (v : Covered a c) → Counting v (9 + p + z) 3307
     go v = record {
-      left = all-left v;
+      left = starts (v .way);
+      ahead = ahead-first (q .complete) v;
       same =
           let ls = lines a (starts (v .way)) in
           omega (arith, e, f, ap length (listing-parts v), length-append (column c 10) (line a 0 ++ ls), length-append (line a 0) ls, column-length c 10);
     }
 
-pub counted-within : {a : List ℕ} {c n i : ℕ} → Counted a c n i → i < length a → Within a i
-counted-within k h = within (k .asked .complete) (k .each (k .asked .covered) .left) h
+pub counted-record : {a : List ℕ} {c n i : ℕ} → Counted a c n i → i < length a → Record a i
+counted-record k h = record-here (k .each (k .asked .covered) .ahead) h
 
 pub counted-next : {a : List ℕ} {c n i w z : ℕ} → Counted a c n i → i < length a → w ≡ length (line a i) → w ≤ 126 → z ≡ sizeAt a i → Counted a c (n + w) (i + z)
-counted-next {a} {c} {n} {i} {w} {z} k h e l f = rw f (record { asked = k .asked; small = omega (arith, k .small, counted-within k h .least); each = go })
+counted-next {a} {c} {n} {i} {w} {z} k h e l f = rw f (record { asked = k .asked; small = omega (arith, k .small, counted-record k h .least); each = go })
   where
     go : (v : Covered a c) → Counting v (n + w) (i + sizeAt a i)
     go v =
         let t = k .each v in
-        let m = left-next (k .asked .complete) (t .left) h in
+        let m = ahead-step (t .ahead) h in
         record {
-          left = m .0;
-          same = omega (arith, e, t .same, ap length (lines-more a (starts (t .left .rest)) (starts (m .0 .rest)) i (m .1)), length-append (line a i) (lines a (starts (m .0 .rest))));
+          left = m .rest;
+          ahead = m .on;
+          same = omega (arith, e, t .same, ap length (lines-more a (t .left) (m .rest) i (m .is)), length-append (line a i) (lines a (m .rest)));
         }
 
 pub counted-last : {a : List ℕ} {c n i : ℕ} → Counted a c n i → length a ≤ i → Needs a c n
 counted-last {a} k h v =
     let t = k .each v in
-    omega (arith, t .same, ap length (lines-none a (starts (t .left .rest)) (left-none (k .asked .complete) (t .left) h)))
+    omega (arith, t .same, ap length (lines-none a (t .left) (ahead-stop (t .ahead) h)))
 
 -- ---- writing
 -- what is left to write, from byte p on, gives what was left to write in room₀ from byte p₀ on
 pub record Laying {a : List ℕ} {c : ℕ} (v : Covered a c) (room₀ : List ℕ) (p₀ : ℕ) (room : List ℕ) (p i : ℕ) : Type 0 where
-  pub left : Left v i
-  pub fits : p + length (lines a (starts (left .rest))) ≤ length room
-  pub same : sets room p (lines a (starts (left .rest))) ≡ sets room₀ p₀ (lines a (starts (v .way)))
+  pub left : List ℕ
+  pub ahead : Ahead a i left
+  pub fits : p + length (lines a left) ≤ length room
+  pub same : sets room p (lines a left) ≡ sets room₀ p₀ (lines a (starts (v .way)))
 
 pub record Laid (a : List ℕ) (c : ℕ) (room₀ : List ℕ) (p₀ : ℕ) (room : List ℕ) (p i : ℕ) : Type 0 where
   pub asked : Listable a c
@@ -132,17 +97,17 @@ pub record Laid (a : List ℕ) (c : ℕ) (room₀ : List ℕ) (p₀ : ℕ) (room
   pub each : (v : Covered a c) → Laying v room₀ p₀ room p i
 
 pub laid-first : {a room : List ℕ} {c p : ℕ} → Listable a c → ((v : Covered a c) → p + length (lines a (starts (v .way))) ≤ length room) → Laid a c room p room p 3307
-laid-first q h = record { asked = q; size = refl; each = λ v. record { left = all-left v; fits = h v; same = refl } }
+laid-first q h = record { asked = q; size = refl; each = λ v. record { left = starts (v .way); ahead = ahead-first (q .complete) v; fits = h v; same = refl } }
 
-pub laid-within : {a room₀ room : List ℕ} {c p₀ p i : ℕ} → Laid a c room₀ p₀ room p i → i < length a → Within a i
-laid-within k h = within (k .asked .complete) (k .each (k .asked .covered) .left) h
+pub laid-record : {a room₀ room : List ℕ} {c p₀ p i : ℕ} → Laid a c room₀ p₀ room p i → i < length a → Record a i
+laid-record k h = record-here (k .each (k .asked .covered) .ahead) h
 
 -- the next line has room
 pub laid-fits : {a room₀ room : List ℕ} {c p₀ p i : ℕ} → Laid a c room₀ p₀ room p i → i < length a → p + length (line a i) ≤ length room
 laid-fits {a} {i = i} k h =
     let t = k .each (k .asked .covered) in
-    let m = left-next (k .asked .complete) (t .left) h in
-    omega (arith, t .fits, ap length (lines-more a (starts (t .left .rest)) (starts (m .0 .rest)) i (m .1)), length-append (line a i) (lines a (starts (m .0 .rest))))
+    let m = ahead-step (t .ahead) h in
+    omega (arith, t .fits, ap length (lines-more a (t .left) (m .rest) i (m .is)), length-append (line a i) (lines a (m .rest)))
 
 pub laid-next : {a room₀ room exit : List ℕ} {c p₀ p i q z : ℕ} → Laid a c room₀ p₀ room p i → i < length a → Puts room p (line a i) q exit → z ≡ sizeAt a i → Laid a c room₀ p₀ exit q (i + z)
 laid-next {a} {room₀} {room} {exit} {c} {p₀} {p} {i} {q} {z} k h f e = rw e (record { asked = k .asked; size = puts-length f ∙ k .size; each = go })
@@ -150,11 +115,12 @@ laid-next {a} {room₀} {room} {exit} {c} {p₀} {p} {i} {q} {z} k h f e = rw e 
     go : (v : Covered a c) → Laying v room₀ p₀ exit q (i + sizeAt a i)
     go v =
         let t = k .each v in
-        let m = left-next (k .asked .complete) (t .left) h in
-        let ls = lines a (starts (m .0 .rest)) in
-        let d = lines-more a (starts (t .left .rest)) (starts (m .0 .rest)) i (m .1) in
+        let m = ahead-step (t .ahead) h in
+        let ls = lines a (m .rest) in
+        let d = lines-more a (t .left) (m .rest) i (m .is) in
         record {
-          left = m .0;
+          left = m .rest;
+          ahead = m .on;
           fits = omega (arith, t .fits, f .next, puts-length f, ap length d, length-append (line a i) ls);
           same =
               ap (λ (r : List ℕ). sets r q ls) (f .put)
@@ -167,7 +133,7 @@ laid-next {a} {room₀} {room} {exit} {c} {p₀} {p} {i} {q} {z} k h f e = rw e 
 pub laid-last : {a room₀ room : List ℕ} {c p₀ p i : ℕ} → Laid a c room₀ p₀ room p i → length a ≤ i → (v : Covered a c) → room ≡ sets room₀ p₀ (lines a (starts (v .way)))
 laid-last {a} {room₀} {room} {c} {p₀} {p} k h v =
     let t = k .each v in
-    ap (sets room p) (sym (lines-none a (starts (t .left .rest)) (left-none (k .asked .complete) (t .left) h))) ∙ t .same
+    ap (sets room p) (sym (lines-none a (t .left) (ahead-stop (t .ahead) h))) ∙ t .same
 
 -- the head and the main header's line
 pub record Begun (a : List ℕ) (c : ℕ) (room₀ : List ℕ) (p : ℕ) (room : List ℕ) : Type 0 where

@@ -6,6 +6,8 @@ use mathlib.Core.Bool.{Bool, true, false}
 use mathlib.Core.List.{List}
 use lib.Ieee.{Float}
 use Rattle.finish.specs.Finish.{FinishedIs}
+use Rattle.level0.specs.Profile.{level0, Level0Is}
+use Rattle.level0.proofs.ByLaws.{unique-by}
 use Rattle.finish.specs.declared.Finished.{Finished}
 use Rattle.query.specs.Query.{TimeIs, PointIs}
 use Rattle.query.specs.declared.PointAnswer.{PointAnswer}
@@ -21,7 +23,7 @@ use Rattle.mphr.specs.Layout.{fieldOf, saidPlace}
 use Rattle.mphr.specs.declared.layout.FieldPlace.{FieldPlace}
 use Rattle.mphr.specs.Lines.{WritesTextLine, WritesNumberLine, WritesTimeLine, WritesName}
 use Rattle.told.specs.Given.{isSet}
-use Rattle.warpladle.specs.Judging.{ArrivalTold, ExtentTold, FinishedTold, RecordTold, ListingTold}
+use Rattle.warpladle.specs.Judging.{ArrivalTold, ExtentTold, VerdictTold, FinishedTold, Level0Told, RecordTold, ListingTold}
 use Rattle.warpladle.specs.Fields.{longField, pairOf, NumberTold, TimeTold, TextTold, FieldTold, DescribedTold, PointTold}
 use Rattle.warpladle.specs.Lines.{HeaderTold, WriteHeaderTold, TextLineTold, NumberLineTold, TimeLineTold}
 use Rattle.record.proofs.Determined as H
@@ -39,8 +41,14 @@ unique-wl-arrival a n m = one-told (J.unique-arrival a)
 pub unique-wl-extent : (a n m : List ℕ) → ExtentTold a n → ExtentTold a m → n ≡ m
 unique-wl-extent a n m = one-told (F.unique-extent a)
 
-pub unique-wl-finished : (a : List ℕ) (rows x y : List (List ℕ)) (n m : List ℕ) → FinishedTold a rows x n → FinishedTold a rows y m → (x ≡ y) × (n ≡ m)
-unique-wl-finished a rows x y n m = two-told (λ (z : List (List ℕ)) (r : Finished). FinishedIs a rows r z) x y (λ r s. F.unique-finished a rows r s x y)
+pub unique-wl-verdict : (a n m : List ℕ) → VerdictTold a n → VerdictTold a m → n ≡ m
+unique-wl-verdict a n m = one-told (F.unique-verdict a)
+
+pub unique-wl-level0 : (a : List ℕ) (rows x y : List (List ℕ)) (n m : List ℕ) → Level0Told a rows x n → Level0Told a rows y m → (x ≡ y) × (n ≡ m)
+unique-wl-level0 a rows x y n m = two-told (λ (z : List (List ℕ)) (r : Finished). Level0Is a rows r z) x y (λ r s. unique-by level0 a rows r s x y)
+
+pub unique-wl-rows : (a : List ℕ) (rows x y : List (List ℕ)) (n m : List ℕ) → FinishedTold a rows x n → FinishedTold a rows y m → (x ≡ y) × (n ≡ m)
+unique-wl-rows a rows x y n m = two-told (λ (z : List (List ℕ)) (r : Finished). FinishedIs a rows r z) x y (λ r s. F.unique-finished a rows r s x y)
 
 pub unique-wl-record : (a : List ℕ) (k : ℕ) (n m : List ℕ) → RecordTold a k n → RecordTold a k m → n ≡ m
 unique-wl-record a k n m = one-told (Q.unique-record-at a k)

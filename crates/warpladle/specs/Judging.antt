@@ -3,7 +3,8 @@
 use Prim.Native.Nat.{ℕ}
 use mathlib.Core.List.{List, [], _∷_}
 use Rattle.judge.specs.Table.{Judged}
-use Rattle.finish.specs.Finish.{FinishedIs}
+use Rattle.finish.specs.Finish.{VerdictIs, FinishedIs}
+use Rattle.level0.specs.Profile.{Level0Is}
 use Rattle.judge.specs.declared.arrival.Arrival.{Arrival}
 use Rattle.judge.specs.declared.arrival.Arrival.the-variants as A
 use Rattle.judge.specs.Extent.{ExtentIs}
@@ -42,9 +43,15 @@ abbrev pub finishedSaid : Finished → List ℕ
 finishedSaid (F.Accepted c) = one4 c
 finishedSaid (F.Refused r) = refused 4 r
 
+abbrev pub VerdictTold : List ℕ → List ℕ → Type 0
+VerdictTold a numbers = Told (VerdictIs a) finishedSaid numbers
+
 -- the lent rows have become rows′
 abbrev pub FinishedTold : List ℕ → List (List ℕ) → List (List ℕ) → List ℕ → Type 0
 FinishedTold a rows rows′ numbers = Told (λ (r : Finished). FinishedIs a rows r rows′) finishedSaid numbers
+
+abbrev pub Level0Told : List ℕ → List (List ℕ) → List (List ℕ) → List ℕ → Type 0
+Level0Told a rows rows′ numbers = Told (λ (r : Finished). Level0Is a rows r rows′) finishedSaid numbers
 
 -- the record's start and header
 abbrev pub recordSaid : RecordAnswer → List ℕ

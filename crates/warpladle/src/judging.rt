@@ -1,11 +1,13 @@
 // The judges, the record query and the listing.
 use crate::put::put_header;
 use finish::Finished;
-use finish::judge_finished;
+use finish::rows as list_rows;
+use finish::verdict;
 use judge::arrival::Arrival;
 use judge::arrival::Extent;
 use judge::arrival::judge_arrival;
 use judge::arrival::judge_extent;
+use level0::judge_level0;
 use listing::Listed;
 use listing::list_product;
 use query::RecordAnswer;
@@ -16,7 +18,7 @@ use told::put::refuse4;
 use told::put::refuse16;
 ghost use mathlib.Core.Path.{_≡_};
 ghost use Rattle.warpladle.specs.Judging.{arrivalSaid, ArrivalTold, finishedSaid, FinishedTold, recordSaid, RecordTold};
-ghost use Rattle.warpladle.specs.Judging.{extentSaid, ExtentTold, listedSaid, ListingTold};
+ghost use Rattle.warpladle.specs.Judging.{extentSaid, ExtentTold, VerdictTold, Level0Told, listedSaid, ListingTold};
 
 fn put_arrival(answer: &mut [u64; 4], judged: Arrival)
     ensures { λ _. ⌜ now (answer .exit) ≡ arrivalSaid judged ⌝ }
@@ -62,12 +64,28 @@ fn put_finished(answer: &mut [u64; 4], judged: Finished)
     }
 }
 
-// What is to be said of a finished product: 0, 0, the count, 0; a row for each record goes into the list.
+// The verdict of a finished product: 0, 0, the count, 0.
 #[no_mangle]
-pub extern "C" fn wl_finished(bytes: &[u8], rows: &mut [[u32; 7]], answer: &mut [u64; 4])
+pub extern "C" fn wl_verdict(bytes: &[u8], answer: &mut [u64; 4])
+    ensures { λ _. ⌜ VerdictTold (now (bytes .entry)) (now (answer .exit)) ⌝ }
+{
+    put_finished(answer, verdict(bytes));
+}
+
+// The same, and a row for each record goes into the list.
+#[no_mangle]
+pub extern "C" fn wl_rows(bytes: &[u8], rows: &mut [[u32; 7]], answer: &mut [u64; 4])
     ensures { λ _. ⌜ FinishedTold (now (bytes .entry)) (now (rows .entry)) (now (rows .exit)) (now (answer .exit)) ⌝ }
 {
-    put_finished(answer, judge_finished(bytes, rows));
+    put_finished(answer, list_rows(bytes, rows));
+}
+
+// The same by the Level 0 profile.
+#[no_mangle]
+pub extern "C" fn wl_level0(bytes: &[u8], rows: &mut [[u32; 7]], answer: &mut [u64; 4])
+    ensures { λ _. ⌜ Level0Told (now (bytes .entry)) (now (rows .entry)) (now (rows .exit)) (now (answer .exit)) ⌝ }
+{
+    put_finished(answer, judge_level0(bytes, rows));
 }
 
 fn put_record(answer: &mut [u64; 16], found: RecordAnswer)

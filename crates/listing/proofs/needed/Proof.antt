@@ -6,7 +6,8 @@ use mathlib.Core.List.{List}
 use lib.ListN.{length}
 use Rattle.record.proofs.HeaderLaws.{size-there}
 use Rattle.judge.specs.Table.{sizeAt}
-use Rattle.listing.proofs.WalkLaws.{Within, Counted, counted-first, counted-within, counted-next, counted-last, less}
+use Rattle.finish.specs.Ahead.{Record}
+use Rattle.listing.proofs.WalkLaws.{Counted, counted-first, counted-record, counted-next, counted-last, less}
 use borrow.Author.Needs.{needs}
 use Rattle.listing.proofs.needed.Statement.{statement}
 use Rattle.listing.proofs.needed.Tie as tie
@@ -17,8 +18,8 @@ Inv-loop s count n₀ at₀ n at = Counted s count n at
 abbrev μ-loop : tie.MeasureT-loop
 μ-loop s count n₀ at₀ n at = length s - at
 
-in-turn : (c : tie.In-loop Inv-loop μ-loop) → Within (c .before .before .before .before .before .args .s .now) (c .before .loop .at)
-in-turn c = counted-within (c .before .loop .inv) (c .loop-test .taken)
+in-turn : (c : tie.In-loop Inv-loop μ-loop) → Record (c .before .before .before .before .before .args .s .now) (c .before .loop .at)
+in-turn c = counted-record (c .before .loop .inv) (c .loop-test .taken)
 
 places-requires : tie.Need-places-requires Inv-loop μ-loop
 places-requires c κs = search needs

@@ -7,8 +7,9 @@ use lib.ListN.{length}
 use Rattle.meter.specs.General.{runOf, lead}
 use Rattle.record.proofs.HeaderLaws.{size-there}
 use Rattle.judge.specs.Table.{sizeAt}
+use Rattle.finish.specs.Ahead.{Record}
 use Rattle.listing.proofs.StoreLaws.{puts-append, puts-length}
-use Rattle.listing.proofs.WalkLaws.{Within, Laid, Begun, head-fits, begun-laid, laid-within, laid-fits, laid-next, laid-last, begun-last, less}
+use Rattle.listing.proofs.WalkLaws.{Laid, Begun, head-fits, begun-laid, laid-record, laid-fits, laid-next, laid-last, begun-last, less}
 use borrow.Author.Needs.{needs}
 use Rattle.listing.proofs.put_list.Statement.{statement}
 use Rattle.listing.proofs.put_list.Tie as tie
@@ -28,8 +29,8 @@ H c = c .before .before .before .before
 begun : (c : tie.After-put-line Inv-loop μ-loop) → Begun (S (H c) .args .s .now) (S (H c) .args .count) (S (H c) .args .room .now) (c .put-line .result) (c .put-line .last .1 .1 .0)
 begun c = record { asked = S (H c) .pre; puts = puts-append (H c .put-head .ensures) (c .put-line .ensures) }
 
-in-turn : (c : tie.In-loop Inv-loop μ-loop) → Within (S (H (c .before .before .before .before)) .args .s .now) (c .before .loop .at)
-in-turn c = laid-within (c .before .loop .inv) (c .loop-test .taken)
+in-turn : (c : tie.In-loop Inv-loop μ-loop) → Record (S (H (c .before .before .before .before)) .args .s .now) (c .before .loop .at)
+in-turn c = laid-record (c .before .loop .inv) (c .loop-test .taken)
 
 slice-aggregate-put-head : tie.Need-slice-aggregate-put-head Inv-loop μ-loop
 slice-aggregate-put-head c = search needs

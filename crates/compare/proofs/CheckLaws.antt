@@ -7,12 +7,8 @@ use mathlib.Core.Bool.{Bool, true, false}
 use mathlib.Core.List.{List}
 use lib.ListN.{length, take}
 use Rattle.calendar.specs.declared.Refusal.{Refusal}
-use Rattle.judge.specs.Extent.{ExtentIs}
-use Rattle.judge.specs.declared.arrival.Extent.{Extent}
-use Rattle.judge.specs.declared.arrival.Extent.the-variants as X
 use Rattle.demands.specs.Product.{Meets}
-use Rattle.demands.proofs.Accept.{complete-covered}
-use Rattle.demands.proofs.Accepted.{meets-complete, unique-extent, one-list}
+use Rattle.demands.proofs.Accepted.{one-list, meets-fit, one-refused}
 use Rattle.parts.specs.Parts.{mainOf, recordsAt, Follows}
 use Rattle.parts.specs.Against.{CutOf, Verdict, alike, unlike, verdict}
 use Rattle.parts.specs.Pass.{FourAgree}
@@ -30,26 +26,11 @@ use Rattle.compare.specs.declared.walk.Compared.{Compared}
 use Rattle.compare.specs.declared.walk.Compared.the-variants as R
 use Rattle.compare.specs.Comparing.{Decides}
 use Rattle.compare.specs.Walking.{Both, Products, RecordsIs, comparedAs}
-use Rattle.compare.specs.Check.{refusedAt, IsCutOf, PartsCheck, is, other-field, unmatched, CheckIs, original-unfit, original-short, cut-unfit, cut-short, both}
+use Rattle.compare.specs.Check.{refusedAt, IsCutOf, PartsCheck, is, other-field, unmatched, CheckIs, original-unfit, cut-unfit, both}
 use Rattle.compare.proofs.CutOfLaws.{verdict-cut, cut-verdict, cut-itself, cut-on}
 
--- ---- what cannot be together: a product has come whole, so the judge neither refuses it nor waits
+-- ---- of a product
 module _ {a : List ℕ} (t : Meets a) where
-  entire : (c : ℕ) × ExtentIs a (X.Entire c)
-  entire = let k = meets-complete t in let v = complete-covered k in (v .0, (k, v .1))
-
-  not-refused : (r : Refusal) → ExtentIs a (X.Refused r) → ⊥
-  not-refused r g = go (unique-extent a (X.Refused r) (X.Entire (entire .0)) g (entire .1))
-    where
-      go : X.Refused r ≡ X.Entire (entire .0) → ⊥
-      go e = let z : _≡_ {A = ℕ} 0 1 = cc in omega arith
-
-  not-part : ExtentIs a X.Part → ⊥
-  not-part g = go (unique-extent a X.Part (X.Entire (entire .0)) g (entire .1))
-    where
-      go : X.Part ≡ X.Entire (entire .0) → ⊥
-      go e = let z : _≡_ {A = ℕ} 0 1 = cc in omega arith
-
   pub product-long : length (take 3307 a) ≡ 3307
   product-long = meets-built a t .fits .long
 
@@ -59,22 +40,7 @@ module _ {a : List ℕ} (t : Meets a) where
   low : length a ≤ 2147483647
   low = omega (arith, t .come, t .header .most)
 
-not-both : {a : List ℕ} (r : Refusal) → ExtentIs a (X.Refused r) → ExtentIs a X.Part → ⊥
-not-both {a} r g h = go (unique-extent a (X.Refused r) X.Part g h)
-  where
-    go : X.Refused r ≡ X.Part → ⊥
-    go e = let z : _≡_ {A = ℕ} 0 1 = cc in omega arith
-
-one-refusal : {a : List ℕ} (r s : Refusal) → ExtentIs a (X.Refused r) → ExtentIs a (X.Refused s) → C.Refused r ≡ C.Refused s
-one-refusal {a} r s g h = go (unique-extent a (X.Refused r) (X.Refused s) g h)
-  where
-    go : X.Refused r ≡ X.Refused s → C.Refused r ≡ C.Refused s
-    go e = cc
-
 -- ---- from the code's answers
-pub extent-at : (a : List ℕ) {x y : Extent} → x ≡ y → ExtentIs a x → ExtentIs a y
-extent-at a e c = subst (λ (z : Extent). ExtentIs a z) e c
-
 pub answer-at : {a b : List ℕ} {r s : Checked} → r ≡ s → CheckIs a b s → CheckIs a b r
 answer-at {a} {b} e c = subst (λ (x : Checked). CheckIs a b x) (sym e) c
 
@@ -133,30 +99,14 @@ moved {a} {b} {r} t t′ u u′ p =
     (subst (λ (l : List ℕ). PartsCheck (mainOf a) (mainOf b) (recordsAt a l) (recordsAt b (u .list)) r) (one-list t t′) p)
 
 pub unique-check : (a b : List ℕ) (r s : Checked) → CheckIs a b r → CheckIs a b s → r ≡ s
-unique-check a b r s (original-unfit q g) (original-unfit p h) = one-refusal q p g h
-unique-check a b r s (original-unfit q g) (original-short h) = absurd (not-both q g h)
-unique-check a b r s (original-unfit q g) (cut-unfit p t h) = absurd (not-refused t q g)
-unique-check a b r s (original-unfit q g) (cut-short t h) = absurd (not-refused t q g)
-unique-check a b r s (original-unfit q g) (both t u p) = absurd (not-refused t q g)
-unique-check a b r s (original-short g) (original-unfit p h) = absurd (not-both p h g)
-unique-check a b r s (original-short g) (original-short h) = refl
-unique-check a b r s (original-short g) (cut-unfit p t h) = absurd (not-part t g)
-unique-check a b r s (original-short g) (cut-short t h) = absurd (not-part t g)
-unique-check a b r s (original-short g) (both t u p) = absurd (not-part t g)
-unique-check a b r s (cut-unfit q t g) (original-unfit p h) = absurd (not-refused t p h)
-unique-check a b r s (cut-unfit q t g) (original-short h) = absurd (not-part t h)
-unique-check a b r s (cut-unfit q t g) (cut-unfit p u h) = one-refusal q p g h
-unique-check a b r s (cut-unfit q t g) (cut-short u h) = absurd (not-both q g h)
-unique-check a b r s (cut-unfit q t g) (both u v p) = absurd (not-refused v q g)
-unique-check a b r s (cut-short t g) (original-unfit p h) = absurd (not-refused t p h)
-unique-check a b r s (cut-short t g) (original-short h) = absurd (not-part t h)
-unique-check a b r s (cut-short t g) (cut-unfit p u h) = absurd (not-both p h g)
-unique-check a b r s (cut-short t g) (cut-short u h) = refl
-unique-check a b r s (cut-short t g) (both u v p) = absurd (not-part v g)
-unique-check a b r s (both t u p) (original-unfit q h) = absurd (not-refused t q h)
-unique-check a b r s (both t u p) (original-short h) = absurd (not-part t h)
-unique-check a b r s (both t u p) (cut-unfit q v h) = absurd (not-refused u q h)
-unique-check a b r s (both t u p) (cut-short v h) = absurd (not-part u h)
+unique-check a b r s (original-unfit q g) (original-unfit p h) = ap C.Refused (one-refused q p g h)
+unique-check a b r s (original-unfit q g) (cut-unfit p t h) = absurd (meets-fit t q g)
+unique-check a b r s (original-unfit q g) (both t u p) = absurd (meets-fit t q g)
+unique-check a b r s (cut-unfit q t g) (original-unfit p h) = absurd (meets-fit t p h)
+unique-check a b r s (cut-unfit q t g) (cut-unfit p u h) = ap C.Refused (one-refused q p g h)
+unique-check a b r s (cut-unfit q t g) (both u v p) = absurd (meets-fit v q g)
+unique-check a b r s (both t u p) (original-unfit q h) = absurd (meets-fit t q h)
+unique-check a b r s (both t u p) (cut-unfit q v h) = absurd (meets-fit u q h)
 unique-check a b r s (both t u p) (both v w q) = one-parts (order v) (order w) (moved t v u w p) q
 
 -- ---- YES EXACTLY WHERE the second product is a cut of the first
@@ -170,9 +120,7 @@ cut-is c = both (c .original) (c .cut) (is (c .parts))
 
 pub is-cut : {a b : List ℕ} (r : Checked) → r ≡ C.Is → CheckIs a b r → Cut a b
 is-cut r e (original-unfit q g) = absurd (let z : _≡_ {A = ℕ} 0 1 = cc in omega arith)
-is-cut r e (original-short g) = absurd (let z : _≡_ {A = ℕ} 0 1 = cc in omega arith)
 is-cut r e (cut-unfit q t g) = absurd (let z : _≡_ {A = ℕ} 0 1 = cc in omega arith)
-is-cut r e (cut-short t g) = absurd (let z : _≡_ {A = ℕ} 0 1 = cc in omega arith)
 is-cut {a} {b} r e (both t u p) = go e p
   where
     go : {r : Checked} → r ≡ C.Is → PartsCheck (mainOf a) (mainOf b) (recordsAt a (t .list)) (recordsAt b (u .list)) r → Cut a b

@@ -8,8 +8,8 @@ use mathlib.Core.Path.{_≡_}
 use mathlib.Core.List.{List}
 use lib.ListN.{length}
 use Rattle.calendar.specs.declared.Refusal.{Refusal}
-use Rattle.judge.specs.Extent.{ExtentIs}
-use Rattle.judge.specs.declared.arrival.Extent.the-variants as X
+use Rattle.finish.specs.Finish.{VerdictIs}
+use Rattle.finish.specs.declared.Finished.the-variants as F
 use Rattle.demands.specs.Product.{Meets}
 use Rattle.parts.specs.Parts.{mainOf, recordsAt}
 use Rattle.parts.specs.Against.{CutOf, unlike, verdict}
@@ -33,9 +33,7 @@ pub data PartsCheck (m n : List ℕ) (rs cs : List (List ℕ)) : Checked → Typ
 
 -- of the bytes a of an original and b of a cut
 pub data CheckIs (a b : List ℕ) : Checked → Type 0 where
-  original-unfit : (r : Refusal) → ExtentIs a (X.Refused r) → CheckIs a b (C.Refused r)
-  original-short : ExtentIs a X.Part → CheckIs a b (refusedAt 17 (length a))
-  cut-unfit : (r : Refusal) → Meets a → ExtentIs b (X.Refused r) → CheckIs a b (C.Refused r)
-  cut-short : Meets a → ExtentIs b X.Part → CheckIs a b (refusedAt 17 (length b))
+  original-unfit : (r : Refusal) → VerdictIs a (F.Refused r) → CheckIs a b (C.Refused r)
+  cut-unfit : (r : Refusal) → Meets a → VerdictIs b (F.Refused r) → CheckIs a b (C.Refused r)
   both :
       {r : Checked} (t : Meets a) (u : Meets b) → PartsCheck (mainOf a) (mainOf b) (recordsAt a (t .list)) (recordsAt b (u .list)) r → CheckIs a b r

@@ -3,8 +3,8 @@ use crate::same::four_agree;
 use crate::walk::Compared;
 use crate::walk::compare_records;
 use calendar::Refusal;
-use judge::arrival::Extent;
-use judge::arrival::judge_extent;
+use finish::Finished;
+use finish::verdict;
 ghost use mathlib.Core.Path.{_≡_};
 ghost use Rattle.demands.specs.Product.{Meets};
 ghost use Rattle.compare.specs.Check.{refusedAt, CheckIs};
@@ -42,10 +42,9 @@ fn check_against(original: &[u8], cut: &[u8]) -> Checked
     requires { ⌜ Meets (now original) ⌝ }
     ensures { λ r. ⌜ CheckIs (now (original .entry)) (now (cut .entry)) r ⌝ }
 {
-    match judge_extent(cut) {
-        Extent::Refused(r) => Checked::Refused(r),
-        Extent::Part => refused(17, cut.len()),
-        Extent::Entire { count: _ } => check_products(original, cut),
+    match verdict(cut) {
+        Finished::Refused(r) => Checked::Refused(r),
+        Finished::Accepted { count: _ } => check_products(original, cut),
     }
 }
 
@@ -53,9 +52,8 @@ fn check_against(original: &[u8], cut: &[u8]) -> Checked
 pub fn check_cut(original: &[u8], cut: &[u8]) -> Checked
     ensures { λ r. ⌜ CheckIs (now (original .entry)) (now (cut .entry)) r ⌝ }
 {
-    match judge_extent(original) {
-        Extent::Refused(r) => Checked::Refused(r),
-        Extent::Part => refused(17, original.len()),
-        Extent::Entire { count: _ } => check_against(original, cut),
+    match verdict(original) {
+        Finished::Refused(r) => Checked::Refused(r),
+        Finished::Accepted { count: _ } => check_against(original, cut),
     }
 }

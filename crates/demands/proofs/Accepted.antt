@@ -12,6 +12,7 @@ use borrow.Author.Tests.{eq-eqb, ne-eqb}
 use lib.Dec.{T, eqb, eqb→eq}
 use lib.ListN.{length, getD, length-set}
 use lib.Seq.{getD-set-same, getD-set-other}
+use Rattle.calendar.specs.declared.Refusal.{Refusal}
 use Rattle.calendar.proofs.Range.{below}
 use Rattle.calendar.proofs.Range as R
 use Rattle.meter.specs.Integer.{beAt}
@@ -451,3 +452,19 @@ unique-verdict a (Refused r) (Refused s) f g = let u = go f g in ap Refused (sam
     go (faulty g) (short c s) = absurd (not-clean g c)
     go (short c s) (faulty g) = absurd (not-clean g c)
     go (short c s) (short c′ s′) = (refl, refl)
+
+-- a product is not refused, and a refusal is one
+pub meets-fit : {a : List ℕ} → Meets a → (r : Refusal) → VerdictIs a (Refused r) → ⊥
+meets-fit t r g = no-verdict (meets-complete t) g
+
+pub one-refused : {a : List ℕ} (r s : Refusal) → VerdictIs a (Refused r) → VerdictIs a (Refused s) → r ≡ s
+one-refused {a} r s g h = go (unique-verdict a (Refused r) (Refused s) g h)
+  where
+    go : Refused r ≡ Refused s → r ≡ s
+    go e = cc
+
+pub accepted-product : {a : List ℕ} {c : ℕ} → VerdictIs a (Accepted c) → Meets a
+accepted-product g = complete-is-product (g .0)
+
+pub verdict-at : (a : List ℕ) {x y : Finished} → x ≡ y → VerdictIs a x → VerdictIs a y
+verdict-at a e g = rw e at g

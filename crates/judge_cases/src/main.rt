@@ -23,16 +23,18 @@ fn print_case(case: &[u8], product: &[u8], due: &[u8]) {
     let asked = word(case, 12, 4) as usize;
     match kind {
         1 => print_product(number, product),
-        2 => print_rows(number, product, due),
+        2 => print_rows(number, product, due, false),
         3 => print_queries(number, product, asked),
         4 => print_points(number, product),
+        5 => print_rows(number, product, due, true),
         _ => say(b"unknown case\n"),
     }
 }
 
 // How many bytes of rows a case has.
 fn due_in(case: &[u8]) -> usize {
-    if word(case, 0, 4) != 2 {
+    let kind = word(case, 0, 4);
+    if kind != 2 && kind != 5 {
         return 0;
     }
     word(case, 12, 4) as usize

@@ -1,5 +1,5 @@
-// Products judged: every prefix of an arrival and the finished product, printed as the vectors' expected text is; and the rows of the
-// finished judge, for rooms that are too small, just large enough, and larger.
+// Products judged: every prefix of an arrival and the verdict of the finished product, printed as the vectors' expected text is; and the rows
+// of the lister, also by the Level 0 profile, for rooms that are too small, just large enough, and larger.
 use crate::answers;
 use calendar::Refusal;
 use cases::input::part;
@@ -7,9 +7,11 @@ use cases::input::word;
 use cases::print;
 use cases::print::say;
 use finish::Finished;
-use finish::judge_finished;
+use finish::rows as list_rows;
+use finish::verdict;
 use judge::arrival::Arrival;
 use judge::arrival::judge_arrival;
+use level0::judge_level0;
 
 // How many places there are for rows, and what they hold before the judge is asked: no product has a record there.
 const PLACES: usize = 1024;
@@ -54,10 +56,17 @@ fn print_arrivals(bytes: &[u8]) {
     }
 }
 
-// The finished judge, lent the first places; where there are fewer than `room`, a refusal with 0, which no judge gives.
-fn judge_into(bytes: &[u8], rows: &mut [[u32; 7]], room: usize) -> Finished {
+fn list_into(bytes: &[u8], rows: &mut [[u32; 7]], level0: bool) -> Finished {
+    if level0 {
+        return judge_level0(bytes, rows);
+    }
+    list_rows(bytes, rows)
+}
+
+// The lister, lent the first places; where there are fewer than `room`, a refusal with 0, which no judge gives.
+fn judge_into(bytes: &[u8], rows: &mut [[u32; 7]], room: usize, level0: bool) -> Finished {
     if room <= rows.len() {
-        return judge_finished(bytes, &mut rows[..room]);
+        return list_into(bytes, &mut rows[..room], level0);
     }
     Finished::Refused(Refusal {
         number: 0,
@@ -70,8 +79,7 @@ pub(crate) fn print_product(number: u64, bytes: &[u8]) {
     print::number(number);
     print::number(bytes.len() as u64);
     say(b"\nfinished");
-    let mut rows = [[UNTOUCHED; 7]; PLACES];
-    answers::finished(judge_into(bytes, &mut rows, PLACES));
+    answers::finished(verdict(bytes));
     print_arrivals(bytes);
 }
 
@@ -117,12 +125,16 @@ fn due_of(judged: Finished, n: usize) -> usize {
 }
 
 // The answer for this room, and `lost` where a place does not hold what is due.
-fn print_room(number: u64, bytes: &[u8], due: &[u8], room: usize) {
-    say(b"rows");
+fn print_room(number: u64, bytes: &[u8], due: &[u8], room: usize, level0: bool) {
+    if level0 {
+        say(b"level0");
+    } else {
+        say(b"rows");
+    }
     print::number(number);
     print::number(room as u64);
     let mut rows = [[UNTOUCHED; 7]; PLACES];
-    let judged = judge_into(bytes, &mut rows, room);
+    let judged = judge_into(bytes, &mut rows, room, level0);
     answers::finished(judged);
     if !holds(&rows, part(due, 0, due_of(judged, due.len()))) {
         say(b"lost\n");
@@ -130,13 +142,13 @@ fn print_room(number: u64, bytes: &[u8], due: &[u8], room: usize) {
 }
 
 // The rows of a product, lent no room, one place less than it has records, as many, one more and four more; `due` has 28 bytes a row.
-pub(crate) fn print_rows(number: u64, bytes: &[u8], due: &[u8]) {
+pub(crate) fn print_rows(number: u64, bytes: &[u8], due: &[u8], level0: bool) {
     let count = due.len() / 28;
-    print_room(number, bytes, due, 0);
+    print_room(number, bytes, due, 0, level0);
     if 0 < count {
-        print_room(number, bytes, due, count - 1);
+        print_room(number, bytes, due, count - 1, level0);
     }
-    print_room(number, bytes, due, count);
-    print_room(number, bytes, due, count + 1);
-    print_room(number, bytes, due, count + 4);
+    print_room(number, bytes, due, count, level0);
+    print_room(number, bytes, due, count + 1, level0);
+    print_room(number, bytes, due, count + 4, level0);
 }

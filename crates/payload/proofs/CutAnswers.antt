@@ -4,19 +4,18 @@ use Prim.Native.Nat.{ℕ, suc, _+_, _≤_, _<_}
 use native.Mathlib.Omega.{arith}
 use mathlib.Core.Path.{_≡_, refl, sym, ap, subst, _∙_}
 use mathlib.Core.Bool.{true}
-use mathlib.Core.Logic.{⊎-elim}
 use mathlib.Core.List.{List, _++_}
 use lib.ListN.{length, drop}
 use Rattle.meter.specs.declared.integer.Written.{Written}
 use Rattle.meter.specs.declared.integer.Written.the-variants as W
-use Rattle.tables.proofs.Laws.{not-clean}
 use Rattle.demands.specs.Product.{Meets}
+use Rattle.demands.proofs.Accepted.{complete-is-product, meets-fit}
 use Rattle.parts.specs.Parts.{bytes, bytesOf, mainOf, recordsAt}
 use Rattle.parts.specs.Cut.{Window, cutParts}
 use Rattle.parts.specs.CutHeader.{cutValues}
 use Rattle.parts.specs.TownCut.{cutRecords, IsCut}
 use Rattle.parts.specs.Rewritten.{Rewritten, Holdable}
-use Rattle.rewrite.specs.Cut.{refusedAt, cutSize, CutIs, no-window, unfit, short, too-much, no-room, written}
+use Rattle.rewrite.specs.Cut.{refusedAt, cutSize, CutIs, no-window, unfit, too-much, no-room, written}
 use Rattle.rewrite.proofs.Laws.{unique-cut}
 use Rattle.payload.specs.Apart.{Apart}
 use Rattle.payload.proofs.Twins.{Twins, twins, complete}
@@ -50,8 +49,7 @@ cut-over {a} {b} {w = w} t k =
 
 answered : {a b : List ℕ} {w : Window} {room exit : List ℕ} {r : Written} → Twins a b → CutIs a w room r exit → (exit′ : List ℕ) × CutIs b w room r exit′
 answered {room = room} t (no-window e) = (room, no-window e)
-answered t (unfit q e g) = absurd (not-clean g (complete t .clean))
-answered t (short e g) = let k = complete t in absurd (⊎-elim (λ z. omega (arith, k .header)) (λ z. omega (arith, k .come)) (g .1))
+answered {a = a} t (unfit q e g) = absurd (meets-fit (complete-is-product (complete t)) q g)
 answered {w = w} {room = room} t (too-much u e g) = (room, too-much (t .two) e (λ h. g (holds-back t w u h)))
 answered {b = b} {w = w} {room = room} t (no-room u e g l) =
     let s = same-size t w u in

@@ -8,18 +8,15 @@ use lib.ListN.{length, drop, length-append}
 use Rattle.calendar.specs.declared.Refusal.{Refusal}
 use Rattle.meter.specs.declared.integer.Written.{Written}
 use Rattle.meter.specs.declared.integer.Written.the-variants as W
-use Rattle.judge.specs.Extent.{ExtentIs}
-use Rattle.judge.specs.declared.arrival.Extent.the-variants as X
 use Rattle.demands.specs.Product.{Meets}
-use Rattle.demands.proofs.Accepted.{one-list}
+use Rattle.demands.proofs.Accepted.{one-list, meets-fit, one-refused}
 use Rattle.parts.specs.Parts.{joined, mainOf, recordsAt}
 use Rattle.parts.specs.Join.{joinParts}
 use Rattle.parts.specs.Pass.{Alike, InTime, Joinable, joinSize, IsJoin}
 use Rattle.parts.proofs.Built.{bytes-joined, meets-built}
 use Rattle.parts.proofs.PassLaws.{one-join, pass-product, pass-three}
 use Rattle.rewrite.specs.Cut.{refusedAt}
-use Rattle.rewrite.specs.Join.{PartsJoin, unlike, out-of-time, too-much, no-room, written, JoinIs, first-unfit, first-short, second-unfit, second-short, both}
-use Rattle.rewrite.proofs.Laws.{not-refused, not-part, not-both, one-refusal}
+use Rattle.rewrite.specs.Join.{PartsJoin, unlike, out-of-time, too-much, no-room, written, JoinIs, first-unfit, second-unfit, both}
 
 -- ---- NO SECOND ANSWER FITS, of two products
 one-parts : {m n : List ℕ} {rs ss : List (List ℕ)} {room : List ℕ} {r s : Written} {x y : List ℕ} → PartsJoin m n rs ss room r x → PartsJoin m n rs ss room s y → (r ≡ s) × (x ≡ y)
@@ -57,38 +54,20 @@ moved {a} {b} {room} {r} {x} t t′ u u′ p =
 
 -- ---- NO SECOND ANSWER FITS
 pub unique-join : (a b room : List ℕ) (r s : Written) (x y : List ℕ) → JoinIs a b room r x → JoinIs a b room s y → (r ≡ s) × (x ≡ y)
-unique-join a b room r s x y (first-unfit q g) (first-unfit p h) = (one-refusal q p g h, refl)
-unique-join a b room r s x y (first-unfit q g) (first-short h) = absurd (not-both q g h)
-unique-join a b room r s x y (first-unfit q g) (second-unfit p t h) = absurd (not-refused t q g)
-unique-join a b room r s x y (first-unfit q g) (second-short t h) = absurd (not-refused t q g)
-unique-join a b room r s x y (first-unfit q g) (both t u p) = absurd (not-refused t q g)
-unique-join a b room r s x y (first-short g) (first-unfit p h) = absurd (not-both p h g)
-unique-join a b room r s x y (first-short g) (first-short h) = (refl, refl)
-unique-join a b room r s x y (first-short g) (second-unfit p t h) = absurd (not-part t g)
-unique-join a b room r s x y (first-short g) (second-short t h) = absurd (not-part t g)
-unique-join a b room r s x y (first-short g) (both t u p) = absurd (not-part t g)
-unique-join a b room r s x y (second-unfit q t g) (first-unfit p h) = absurd (not-refused t p h)
-unique-join a b room r s x y (second-unfit q t g) (first-short h) = absurd (not-part t h)
-unique-join a b room r s x y (second-unfit q t g) (second-unfit p u h) = (one-refusal q p g h, refl)
-unique-join a b room r s x y (second-unfit q t g) (second-short u h) = absurd (not-both q g h)
-unique-join a b room r s x y (second-unfit q t g) (both u v p) = absurd (not-refused v q g)
-unique-join a b room r s x y (second-short t g) (first-unfit p h) = absurd (not-refused t p h)
-unique-join a b room r s x y (second-short t g) (first-short h) = absurd (not-part t h)
-unique-join a b room r s x y (second-short t g) (second-unfit p u h) = absurd (not-both p h g)
-unique-join a b room r s x y (second-short t g) (second-short u h) = (refl, refl)
-unique-join a b room r s x y (second-short t g) (both u v p) = absurd (not-part v g)
-unique-join a b room r s x y (both t u p) (first-unfit q h) = absurd (not-refused t q h)
-unique-join a b room r s x y (both t u p) (first-short h) = absurd (not-part t h)
-unique-join a b room r s x y (both t u p) (second-unfit q v h) = absurd (not-refused u q h)
-unique-join a b room r s x y (both t u p) (second-short v h) = absurd (not-part u h)
+unique-join a b room r s x y (first-unfit q g) (first-unfit p h) = (ap W.Refused (one-refused q p g h), refl)
+unique-join a b room r s x y (first-unfit q g) (second-unfit p t h) = absurd (meets-fit t q g)
+unique-join a b room r s x y (first-unfit q g) (both t u p) = absurd (meets-fit t q g)
+unique-join a b room r s x y (second-unfit q t g) (first-unfit p h) = absurd (meets-fit t p h)
+unique-join a b room r s x y (second-unfit q t g) (second-unfit p u h) = (ap W.Refused (one-refused q p g h), refl)
+unique-join a b room r s x y (second-unfit q t g) (both u v p) = absurd (meets-fit v q g)
+unique-join a b room r s x y (both t u p) (first-unfit q h) = absurd (meets-fit t q h)
+unique-join a b room r s x y (both t u p) (second-unfit q v h) = absurd (meets-fit u q h)
 unique-join a b room r s x y (both t u p) (both v w q) = one-parts (moved t v u w p) q
 
 -- ---- A REFUSAL LEAVES THE ROOM AS IT CAME
 pub join-refusal-keeps : {a b room exit : List ℕ} (r : Refusal) (s : Written) → s ≡ W.Refused r → JoinIs a b room s exit → exit ≡ room
 join-refusal-keeps r s e (first-unfit q _) = refl
-join-refusal-keeps r s e (first-short _) = refl
 join-refusal-keeps r s e (second-unfit q _ _) = refl
-join-refusal-keeps r s e (second-short _ _) = refl
 join-refusal-keeps r s e (both t u p) = go e p
   where
     go : {m n : List ℕ} {rs ss : List (List ℕ)} {room exit : List ℕ} {s : Written} → s ≡ W.Refused r → PartsJoin m n rs ss room s exit → exit ≡ room
@@ -112,9 +91,7 @@ pub record JoinResult (a b room : List ℕ) (k : ℕ) (exit : List ℕ) : Type 0
 
 pub join-written : {a b room exit : List ℕ} (k : ℕ) (s : Written) → s ≡ W.Bytes k → JoinIs a b room s exit → JoinResult a b room k exit
 join-written k s e (first-unfit q _) = absurd (let z : _≡_ {A = ℕ} 0 1 = cc in omega arith)
-join-written k s e (first-short _) = absurd (let z : _≡_ {A = ℕ} 0 1 = cc in omega arith)
 join-written k s e (second-unfit q _ _) = absurd (let z : _≡_ {A = ℕ} 0 1 = cc in omega arith)
-join-written k s e (second-short _ _) = absurd (let z : _≡_ {A = ℕ} 0 1 = cc in omega arith)
 join-written {a} {b} {room} {exit} k s e (both t u p) = go e p
   where
     bytes-of : {i j : ℕ} → W.Bytes i ≡ W.Bytes j → i ≡ j

@@ -9,12 +9,10 @@ use lib.ListN.{length, drop}
 use Rattle.calendar.specs.declared.Refusal.{Refusal}
 use Rattle.meter.specs.declared.integer.Written.{Written}
 use Rattle.meter.specs.declared.integer.Written.the-variants as W
-use Rattle.judge.specs.Extent.{ExtentIs}
-use Rattle.judge.specs.declared.arrival.Extent.{Extent}
-use Rattle.judge.specs.declared.arrival.Extent.the-variants as X
+use Rattle.finish.specs.Finish.{VerdictIs}
+use Rattle.finish.specs.declared.Finished.the-variants as F
 use Rattle.demands.specs.Product.{Meets}
-use Rattle.demands.proofs.Accept.{complete-covered}
-use Rattle.demands.proofs.Accepted.{meets-complete, unique-extent}
+use Rattle.demands.proofs.Accepted.{meets-fit, one-refused}
 use Rattle.parts.specs.Parts.{bytes, mainOf, recordsAt}
 use Rattle.parts.specs.Cut.{Window, Inside, isWindow}
 use Rattle.parts.specs.Rewritten.{Holdable}
@@ -22,41 +20,12 @@ use Rattle.parts.specs.TownCut.{cutRecords, IsCut}
 use Rattle.parts.proofs.CutHeaderLaws.{Bytes}
 use Rattle.parts.proofs.Narrower.{one-cut, cut-of-cut-records, cut-of-cut}
 use Rattle.parts.proofs.TownLaws.{town-product}
-use Rattle.rewrite.specs.Cut.{refusedAt, cutSize, CutIs, no-window, unfit, short, too-much, no-room, written}
+use Rattle.rewrite.specs.Cut.{refusedAt, cutSize, CutIs, no-window, unfit, too-much, no-room, written}
 use Rattle.rewrite.proofs.PlanLaws.{same-records}
 
 -- ---- what cannot be together
 pub clash : {b : Bool} → b ≡ true → b ≡ false → ⊥
 clash t f = true≢false (sym t ∙ f)
-
--- a product has come whole, so the judge neither refuses it nor waits
-module _ {a : List ℕ} (t : Meets a) where
-  entire : (c : ℕ) × ExtentIs a (X.Entire c)
-  entire = let k = meets-complete t in let v = complete-covered k in (v .0, (k, v .1))
-
-  pub not-refused : (r : Refusal) → ExtentIs a (X.Refused r) → ⊥
-  not-refused r g = go (unique-extent a (X.Refused r) (X.Entire (entire .0)) g (entire .1))
-    where
-      go : X.Refused r ≡ X.Entire (entire .0) → ⊥
-      go e = let z : _≡_ {A = ℕ} 0 1 = cc in omega arith
-
-  pub not-part : ExtentIs a X.Part → ⊥
-  not-part g = go (unique-extent a X.Part (X.Entire (entire .0)) g (entire .1))
-    where
-      go : X.Part ≡ X.Entire (entire .0) → ⊥
-      go e = let z : _≡_ {A = ℕ} 0 1 = cc in omega arith
-
-pub not-both : {a : List ℕ} (r : Refusal) → ExtentIs a (X.Refused r) → ExtentIs a X.Part → ⊥
-not-both {a} r g h = go (unique-extent a (X.Refused r) X.Part g h)
-  where
-    go : X.Refused r ≡ X.Part → ⊥
-    go e = let z : _≡_ {A = ℕ} 0 1 = cc in omega arith
-
-pub one-refusal : {a : List ℕ} (r s : Refusal) → ExtentIs a (X.Refused r) → ExtentIs a (X.Refused s) → W.Refused r ≡ W.Refused s
-one-refusal {a} r s g h = go (unique-extent a (X.Refused r) (X.Refused s) g h)
-  where
-    go : X.Refused r ≡ X.Refused s → W.Refused r ≡ W.Refused s
-    go e = cc
 
 module _ {a : List ℕ} (w : Window) (t u : Meets a) where
   held : Holdable (cutRecords a w t) → Holdable (cutRecords a w u)
@@ -70,31 +39,20 @@ module _ {a : List ℕ} {w : Window} {room : List ℕ} where
   one-no-window : {s : Written} {y : List ℕ} → isWindow w ≡ false → CutIs a w room s y → (refusedAt 25 0 ≡ s) × (room ≡ y)
   one-no-window e (no-window _) = (refl, refl)
   one-no-window e (unfit r d g) = absurd (clash d e)
-  one-no-window e (short d g) = absurd (clash d e)
   one-no-window e (too-much t d h) = absurd (clash d e)
   one-no-window e (no-room t d h l) = absurd (clash d e)
   one-no-window e (written t b d h l c) = absurd (clash d e)
 
-  one-unfit : {s : Written} {y : List ℕ} (r : Refusal) → isWindow w ≡ true → ExtentIs a (X.Refused r) → CutIs a w room s y → (W.Refused r ≡ s) × (room ≡ y)
+  one-unfit : {s : Written} {y : List ℕ} (r : Refusal) → isWindow w ≡ true → VerdictIs a (F.Refused r) → CutIs a w room s y → (W.Refused r ≡ s) × (room ≡ y)
   one-unfit r e g (no-window d) = absurd (clash e d)
-  one-unfit r e g (unfit q d k) = (one-refusal r q g k, refl)
-  one-unfit r e g (short d k) = absurd (not-both r g k)
-  one-unfit r e g (too-much t d h) = absurd (not-refused t r g)
-  one-unfit r e g (no-room t d h l) = absurd (not-refused t r g)
-  one-unfit r e g (written t b d h l c) = absurd (not-refused t r g)
-
-  one-short : {s : Written} {y : List ℕ} → isWindow w ≡ true → ExtentIs a X.Part → CutIs a w room s y → (refusedAt 17 (length a) ≡ s) × (room ≡ y)
-  one-short e g (no-window d) = absurd (clash e d)
-  one-short e g (unfit q d k) = absurd (not-both q k g)
-  one-short e g (short d k) = (refl, refl)
-  one-short e g (too-much t d h) = absurd (not-part t g)
-  one-short e g (no-room t d h l) = absurd (not-part t g)
-  one-short e g (written t b d h l c) = absurd (not-part t g)
+  one-unfit r e g (unfit q d k) = (ap W.Refused (one-refused r q g k), refl)
+  one-unfit r e g (too-much t d h) = absurd (meets-fit t r g)
+  one-unfit r e g (no-room t d h l) = absurd (meets-fit t r g)
+  one-unfit r e g (written t b d h l c) = absurd (meets-fit t r g)
 
   one-too-much : {s : Written} {y : List ℕ} (u : Meets a) → isWindow w ≡ true → (Holdable (cutRecords a w u) → ⊥) → CutIs a w room s y → (refusedAt 28 0 ≡ s) × (room ≡ y)
   one-too-much u e g (no-window d) = absurd (clash e d)
-  one-too-much u e g (unfit q d k) = absurd (not-refused u q k)
-  one-too-much u e g (short d k) = absurd (not-part u k)
+  one-too-much u e g (unfit q d k) = absurd (meets-fit u q k)
   one-too-much u e g (too-much t d h) = (refl, refl)
   one-too-much u e g (no-room t d h l) = absurd (g (held w t u h))
   one-too-much u e g (written t b d h l c) = absurd (g (held w t u h))
@@ -103,8 +61,7 @@ module _ {a : List ℕ} {w : Window} {room : List ℕ} where
       {s : Written} {y : List ℕ} (u : Meets a) → isWindow w ≡ true → Holdable (cutRecords a w u) → length room < cutSize a w u → CutIs a w room s y
       → (refusedAt 18 (cutSize a w u) ≡ s) × (room ≡ y)
   one-no-room u e g n (no-window d) = absurd (clash e d)
-  one-no-room u e g n (unfit q d k) = absurd (not-refused u q k)
-  one-no-room u e g n (short d k) = absurd (not-part u k)
+  one-no-room u e g n (unfit q d k) = absurd (meets-fit u q k)
   one-no-room u e g n (too-much t d h) = absurd (h (held w u t g))
   one-no-room u e g n (no-room t d h l) = (ap (refusedAt 18) (sized w u t), refl)
   one-no-room u e g n (written t b d h l c) = absurd (omega (arith, sized w u t))
@@ -113,8 +70,7 @@ module _ {a : List ℕ} {w : Window} {room : List ℕ} where
       {s : Written} {y : List ℕ} (u : Meets a) (b : List ℕ) → isWindow w ≡ true → Holdable (cutRecords a w u) → cutSize a w u ≤ length room → IsCut a w b → CutIs a w room s y
       → (W.Bytes (cutSize a w u) ≡ s) × (b ++ drop (cutSize a w u) room ≡ y)
   one-written u b e g n c (no-window d) = absurd (clash e d)
-  one-written u b e g n c (unfit q d k) = absurd (not-refused u q k)
-  one-written u b e g n c (short d k) = absurd (not-part u k)
+  one-written u b e g n c (unfit q d k) = absurd (meets-fit u q k)
   one-written u b e g n c (too-much t d h) = absurd (h (held w u t g))
   one-written u b e g n c (no-room t d h l) = absurd (omega (arith, sized w u t))
   one-written u b e g n c (written t x d h l k) =
@@ -123,7 +79,6 @@ module _ {a : List ℕ} {w : Window} {room : List ℕ} where
 pub unique-cut : (a : List ℕ) (w : Window) (room : List ℕ) (r s : Written) (x y : List ℕ) → CutIs a w room r x → CutIs a w room s y → (r ≡ s) × (x ≡ y)
 unique-cut a w room r s x y (no-window e) c = one-no-window e c
 unique-cut a w room r s x y (unfit q e g) c = one-unfit q e g c
-unique-cut a w room r s x y (short e g) c = one-short e g c
 unique-cut a w room r s x y (too-much t e g) c = one-too-much t e g c
 unique-cut a w room r s x y (no-room t e g l) c = one-no-room t e g l c
 unique-cut a w room r s x y (written t b e g l k) c = one-written t b e g l k c
@@ -132,7 +87,6 @@ unique-cut a w room r s x y (written t b e g l k) c = one-written t b e g l k c
 pub refusal-keeps : {a : List ℕ} {w : Window} {room exit : List ℕ} (r : Refusal) (s : Written) → s ≡ W.Refused r → CutIs a w room s exit → exit ≡ room
 refusal-keeps r s e (no-window _) = refl
 refusal-keeps r s e (unfit q _ _) = refl
-refusal-keeps r s e (short _ _) = refl
 refusal-keeps r s e (too-much _ _ _) = refl
 refusal-keeps r s e (no-room _ _ _ _) = refl
 refusal-keeps r s e (written t b _ _ _ _) = absurd (let z : _≡_ {A = ℕ} 0 1 = cc in omega arith)
@@ -149,7 +103,6 @@ pub record Result (a : List ℕ) (w : Window) (room : List ℕ) (n : ℕ) (exit 
 pub written-is : {a : List ℕ} {w : Window} {room exit : List ℕ} (n : ℕ) (s : Written) → s ≡ W.Bytes n → CutIs a w room s exit → Result a w room n exit
 written-is n s e (no-window _) = absurd (let z : _≡_ {A = ℕ} 0 1 = cc in omega arith)
 written-is n s e (unfit q _ _) = absurd (let z : _≡_ {A = ℕ} 0 1 = cc in omega arith)
-written-is n s e (short _ _) = absurd (let z : _≡_ {A = ℕ} 0 1 = cc in omega arith)
 written-is n s e (too-much _ _ _) = absurd (let z : _≡_ {A = ℕ} 0 1 = cc in omega arith)
 written-is n s e (no-room _ _ _ _) = absurd (let z : _≡_ {A = ℕ} 0 1 = cc in omega arith)
 written-is {a} {w} {room} n s e (written t b d h l c) =
@@ -172,8 +125,7 @@ pub narrower-answer :
     {a b : List ℕ} {w v : Window} {room exit : List ℕ} {r : Written} (byte : Bytes a) (x : IsCut a v b) → Holdable (cutRecords a v (x .product)) → Inside w v
     → CutIs b w room r exit → CutIs a w room r exit
 narrower-answer byte x k i (no-window e) = no-window e
-narrower-answer byte x k i (unfit q e g) = absurd (not-refused (town-product byte x k) q g)
-narrower-answer byte x k i (short e g) = absurd (not-part (town-product byte x k) g)
+narrower-answer byte x k i (unfit q e g) = absurd (meets-fit (town-product byte x k) q g)
 narrower-answer byte x k i (too-much t e h) = too-much (x .product) e (λ g. h (subst Holdable (sym (cut-of-cut-records byte x k i t)) g))
 narrower-answer {a} {b} {w} {room = room} byte x k i (no-room t e h l) =
     let s = cut-of-cut-records byte x k i t in

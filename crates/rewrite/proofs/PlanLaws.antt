@@ -12,8 +12,6 @@ use Rattle.meter.specs.declared.time.Time.{Time}
 use Rattle.meter.specs.declared.time.Time.the-variants as T
 use Rattle.meter.specs.declared.integer.Written.{Written}
 use Rattle.meter.specs.declared.integer.Written.the-variants as W
-use Rattle.judge.specs.Extent.{ExtentIs}
-use Rattle.judge.specs.declared.arrival.Extent.{Extent}
 use Rattle.record.specs.Times.{isAfter}
 use Rattle.demands.specs.Product.{Meets}
 use Rattle.demands.proofs.Accepted.{one-list}
@@ -222,9 +220,6 @@ module _ {a : List ℕ} {w : Window} {room : List ℕ} (t : Meets a) (windowed :
 -- the same, at the code's names
 pub answer-at : {a : List ℕ} {w : Window} {room exit : List ℕ} {r s : Written} → r ≡ s → CutIs a w room s exit → CutIs a w room r exit
 answer-at {a} {w} {room} {exit} e c = subst (λ (x : Written). CutIs a w room x exit) (sym e) c
-
-pub extent-at : (a : List ℕ) {x y : Extent} → x ≡ y → ExtentIs a x → ExtentIs a y
-extent-at a e c = subst (λ (z : Extent). ExtentIs a z) e c
 
 -- an empty array
 pub zeros-empty : (n j : ℕ) → getD (replicate {A = ℕ} n 0) j 0 ≡ 0

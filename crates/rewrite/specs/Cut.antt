@@ -9,8 +9,8 @@ use lib.ListN.{length, drop}
 use Rattle.calendar.specs.declared.Refusal.{Refusal}
 use Rattle.meter.specs.declared.integer.Written.{Written}
 use Rattle.meter.specs.declared.integer.Written.the-variants as W
-use Rattle.judge.specs.Extent.{ExtentIs}
-use Rattle.judge.specs.declared.arrival.Extent.the-variants as X
+use Rattle.finish.specs.Finish.{VerdictIs}
+use Rattle.finish.specs.declared.Finished.the-variants as F
 use Rattle.demands.specs.Product.{Meets}
 use Rattle.parts.specs.Parts.{bytes}
 use Rattle.parts.specs.Cut.{Window, isWindow}
@@ -27,8 +27,7 @@ cutSize a w t = 3307 + bytes (cutRecords a w t)
 -- of the bytes a, the window w and a room: the answer, and the room at exit
 pub data CutIs (a : List ℕ) (w : Window) (room : List ℕ) : Written → List ℕ → Type 0 where
   no-window : isWindow w ≡ false → CutIs a w room (refusedAt 25 0) room
-  unfit : (r : Refusal) → isWindow w ≡ true → ExtentIs a (X.Refused r) → CutIs a w room (W.Refused r) room
-  short : isWindow w ≡ true → ExtentIs a X.Part → CutIs a w room (refusedAt 17 (length a)) room
+  unfit : (r : Refusal) → isWindow w ≡ true → VerdictIs a (F.Refused r) → CutIs a w room (W.Refused r) room
   too-much : (t : Meets a) → isWindow w ≡ true → (Holdable (cutRecords a w t) → ⊥) → CutIs a w room (refusedAt 28 0) room
   no-room : (t : Meets a) → isWindow w ≡ true → Holdable (cutRecords a w t) → length room < cutSize a w t → CutIs a w room (refusedAt 18 (cutSize a w t)) room
   written :

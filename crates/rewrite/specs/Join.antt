@@ -7,8 +7,8 @@ use lib.ListN.{length, drop}
 use Rattle.calendar.specs.declared.Refusal.{Refusal}
 use Rattle.meter.specs.declared.integer.Written.{Written}
 use Rattle.meter.specs.declared.integer.Written.the-variants as W
-use Rattle.judge.specs.Extent.{ExtentIs}
-use Rattle.judge.specs.declared.arrival.Extent.the-variants as X
+use Rattle.finish.specs.Finish.{VerdictIs}
+use Rattle.finish.specs.declared.Finished.the-variants as F
 use Rattle.demands.specs.Product.{Meets}
 use Rattle.parts.specs.Parts.{mainOf, recordsAt}
 use Rattle.parts.specs.Pass.{Alike, InTime, Joinable, joinSize, IsJoin}
@@ -27,10 +27,8 @@ pub data PartsJoin (m n : List ℕ) (rs ss : List (List ℕ)) (room : List ℕ) 
 
 -- of the bytes a and b
 pub data JoinIs (a b : List ℕ) (room : List ℕ) : Written → List ℕ → Type 0 where
-  first-unfit : (r : Refusal) → ExtentIs a (X.Refused r) → JoinIs a b room (W.Refused r) room
-  first-short : ExtentIs a X.Part → JoinIs a b room (refusedAt 17 (length a)) room
-  second-unfit : (r : Refusal) → Meets a → ExtentIs b (X.Refused r) → JoinIs a b room (W.Refused r) room
-  second-short : Meets a → ExtentIs b X.Part → JoinIs a b room (refusedAt 17 (length b)) room
+  first-unfit : (r : Refusal) → VerdictIs a (F.Refused r) → JoinIs a b room (W.Refused r) room
+  second-unfit : (r : Refusal) → Meets a → VerdictIs b (F.Refused r) → JoinIs a b room (W.Refused r) room
   both :
       {r : Written} {exit : List ℕ} (t : Meets a) (u : Meets b) → PartsJoin (mainOf a) (mainOf b) (recordsAt a (t .list)) (recordsAt b (u .list)) room r exit
       → JoinIs a b room r exit

@@ -9,8 +9,8 @@ use crate::survey::put_kept;
 use crate::survey::survey;
 use crate::times::is_up_to;
 use calendar::Refusal;
-use judge::arrival::Extent;
-use judge::arrival::judge_extent;
+use finish::Finished;
+use finish::verdict;
 use meter::integer::Written;
 use meter::time::Time;
 ghost use mathlib.Core.Path.{_≡_};
@@ -80,9 +80,8 @@ pub fn cut(bytes: &[u8], first: Time, last: Time, room: &mut [u8]) -> Written
     if !is_up_to(first, last) {
         return refused(25, 0);
     }
-    match judge_extent(bytes) {
-        Extent::Refused(r) => Written::Refused(r),
-        Extent::Part => refused(17, bytes.len()),
-        Extent::Entire { count: _ } => cut_product(bytes, first, last, room),
+    match verdict(bytes) {
+        Finished::Refused(r) => Written::Refused(r),
+        Finished::Accepted { count: _ } => cut_product(bytes, first, last, room),
     }
 }

@@ -12,8 +12,8 @@ use crate::plan::plan_of;
 use crate::sections::Sections;
 use crate::sections::sections_of;
 use crate::times::is_after;
-use judge::arrival::Extent;
-use judge::arrival::judge_extent;
+use finish::Finished;
+use finish::verdict;
 use meter::integer::Written;
 ghost use mathlib.Core.Path.{_≡_};
 ghost use mathlib.Core.Bool.{cond};
@@ -200,10 +200,9 @@ fn join_second(first: &[u8], second: &[u8], room: &mut [u8]) -> Written
     requires { ⌜ Meets (now first) ⌝ }
     ensures { λ r. ⌜ JoinIs (now (first .entry)) (now (second .entry)) (now (room .entry)) r (now (room .exit)) ⌝ }
 {
-    match judge_extent(second) {
-        Extent::Refused(r) => Written::Refused(r),
-        Extent::Part => refused(17, second.len()),
-        Extent::Entire { count: _ } => join_products(first, second, room),
+    match verdict(second) {
+        Finished::Refused(r) => Written::Refused(r),
+        Finished::Accepted { count: _ } => join_products(first, second, room),
     }
 }
 
@@ -211,9 +210,8 @@ fn join_second(first: &[u8], second: &[u8], room: &mut [u8]) -> Written
 pub fn join(first: &[u8], second: &[u8], room: &mut [u8]) -> Written
     ensures { λ r. ⌜ JoinIs (now (first .entry)) (now (second .entry)) (now (room .entry)) r (now (room .exit)) ⌝ }
 {
-    match judge_extent(first) {
-        Extent::Refused(r) => Written::Refused(r),
-        Extent::Part => refused(17, first.len()),
-        Extent::Entire { count: _ } => join_second(first, second, room),
+    match verdict(first) {
+        Finished::Refused(r) => Written::Refused(r),
+        Finished::Accepted { count: _ } => join_second(first, second, room),
     }
 }

@@ -1,26 +1,21 @@
--- `rewrite::join::join_second` meets its contract: the judge's answer of the second, and what comes next where it is accepted. Assumes nothing.
-use Rattle.demands.proofs.Accepted.{complete-is-product}
-use Rattle.rewrite.specs.Join.{second-unfit, second-short}
-use Rattle.rewrite.proofs.PlanLaws.{extent-at}
-use Rattle.rewrite.proofs.JoinPlanLaws.{answer-at}
+-- `rewrite::join::join_second` meets its contract: the verdict of the second, and what comes next where it is accepted. Assumes nothing.
+use Rattle.demands.proofs.Accepted.{accepted-product, verdict-at}
+use Rattle.rewrite.specs.Join.{second-unfit}
 use borrow.Author.Needs.{needs}
 use Rattle.rewrite.proofs.join.join_second.Statement.{statement}
 use Rattle.rewrite.proofs.join.join_second.Tie as tie
 
-abbrev S : tie.After-judge-extent → tie.Start
+abbrev S : tie.After-verdict → tie.Start
 S c = c .before .before .before .before
 
 join-products-requires : tie.Need-join-products-requires
 join-products-requires c κs =
     let e = c .before in
     let j = e .before .before in
-    record { first = S j .pre; second = complete-is-product (extent-at _ (e .enum-told2 .given .1) (j .judge-extent .ensures) .0) }
+    record { first = S j .pre; second = accepted-product (verdict-at _ (e .enum-told .given .1) (j .verdict .ensures)) }
 
 returns : tie.Need-returns
-returns c = let r = c .before in let j = r .before .before in second-unfit _ (S j .pre) (extent-at _ (r .r .given .1) (j .judge-extent .ensures))
-
-returns-2 : tie.Need-returns-2
-returns-2 c = let e = c .before in let j = e .before .before in answer-at (c .refused .ensures) (second-short (S j .pre) (extent-at _ (e .enum-told .given .1) (j .judge-extent .ensures)))
+returns c = let r = c .before in let j = r .before .before in second-unfit _ (S j .pre) (verdict-at _ (r .r .given .1) (j .verdict .ensures))
 
 pub join-second-spec : {M : Type 1} → statement M
 join-second-spec =
@@ -29,10 +24,7 @@ join-second-spec =
     (λ c κs. search needs)
     (λ c. search needs)
     (λ c. search needs)
-    (λ c κs. search needs)
-    (λ c. search needs)
     join-products-requires
     returns
-    returns-2
     (λ c. search needs)
     (λ c. search needs))

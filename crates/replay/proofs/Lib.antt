@@ -1,0 +1,6 @@
+pub mod SumLaws
+pub mod FitLaws
+pub mod RunLaws
+pub mod PutLaws
+pub mod WriteLaws
+pub mod ReplayLaws

@@ -2,6 +2,7 @@
 // that are asked, and prints the answers; and `lost` where a room does not hold what the case asks for. A case is 13 bytes, the product,
 // the record or the lengths, and the rooms (tools/replay-cases says which and writes them).
 use cases::input::byte;
+use cases::input::fitting;
 use cases::input::is_same;
 use cases::input::read;
 use cases::input::read_part;
@@ -46,18 +47,23 @@ fn write_into(lengths: &[u32], product: &[u8], room: &mut [u8], due: &[u8]) {
 }
 
 // The next room: its size, and what it is to hold afterwards.
-fn run_room(lengths: &[u32], product: &[u8]) {
+fn lend(lengths: &[u32], product: &[u8], room: &mut [u8], due: &mut [u8]) {
     let mut size = [0u8; 4];
     if !read(STDIN_FILENO, &mut size) {
         return;
     }
-    let mut due = [0u8; 4096];
-    let m = read_part(STDIN_FILENO, &mut due, word(&size, 0, 4) as usize);
-    let mut room = [FILL; 4096];
-    write_into(lengths, product, &mut room[..m], &due);
+    let m = read_part(STDIN_FILENO, due, word(&size, 0, 4) as usize);
+    let n = fitting(m, room);
+    write_into(lengths, product, &mut room[..n], due);
 }
 
-// The number of 4 bytes at each place.
+fn run_room(lengths: &[u32], product: &[u8]) {
+    let mut room = [FILL; 4096];
+    let mut due = [0u8; 4096];
+    lend(lengths, product, &mut room, &mut due);
+}
+
+// The numbers of 4 bytes, one to a place, and zeros after them.
 fn fill(lengths: &mut [u32], given: &[u8]) {
     let mut i: usize = 0;
     while i < lengths.len() {
@@ -74,14 +80,17 @@ fn run_rooms(rooms: u64, lengths: &[u32], product: &[u8]) {
     }
 }
 
-fn record_case(head: &[u8], product: &[u8], given: &[u8]) {
-    let mut lengths = [0u32; 1024];
+fn record_parts(rooms: u64, product: &[u8], given: &[u8], lengths: &mut [u32]) {
+    fill(lengths, given);
     let n = given.len() / 4;
-    if n > 1024 {
-        return;
+    if n <= lengths.len() {
+        run_rooms(rooms, &lengths[..n], product);
     }
-    fill(&mut lengths[..n], given);
-    run_rooms(word(head, 8, 4), &lengths[..n], product);
+}
+
+fn record_case(rooms: u64, product: &[u8], given: &[u8]) {
+    let mut lengths = [0u32; 1024];
+    record_parts(rooms, product, given, &mut lengths);
 }
 
 fn run_case(head: &[u8], product: &mut [u8], given: &mut [u8]) {
@@ -90,7 +99,7 @@ fn run_case(head: &[u8], product: &mut [u8], given: &mut [u8]) {
     if byte(head, 12) == 0 {
         print_replayed(replay::run::replay(&given[..m], &product[..n]));
     } else {
-        record_case(head, &product[..n], &given[..m]);
+        record_case(word(head, 8, 4), &product[..n], &given[..m]);
     }
 }
 

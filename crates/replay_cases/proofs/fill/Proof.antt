@@ -1,58 +1,32 @@
+-- `replay_cases::fill` is safe and ends: each place is filled. Assumes nothing.
+use mathlib.Core.Path.{_≡_, refl}
+use Prim.Native.Nat.{_≤_, _-_}
+use native.Mathlib.Omega.{arith}
+use lib.ListN.{length, length-set}
+use borrow.Author.Needs.{needs}
 use Rattle.replay_cases.proofs.fill.Statement.{statement}
 use Rattle.replay_cases.proofs.fill.Tie as tie
-use Rattle.replay_cases.proofs.fill.Reads as reads
-use Rattle.replay_cases.proofs.fill.Lts as lts
-use Rattle.cases.proofs.input.word.Reads as word-reads
 
 abbrev Inv-loop : tie.InvT-loop
-Inv-loop lengths₀ given i₀ lengths i = ?
+Inv-loop lengths₀ given i₀ lengths i = (i ≤ length lengths₀) × (length lengths ≡ length lengths₀)
 
 abbrev μ-loop : tie.MeasureT-loop
-μ-loop lengths₀ given i₀ lengths i = ?
+μ-loop lengths₀ given i₀ lengths i = length lengths₀ - i
 
--- src/main.rt:63:5
 loop-holds : tie.Need-loop-holds Inv-loop μ-loop
-loop-holds c = ?
+loop-holds c = (omega arith, refl)
 
--- src/main.rt:64:35
-mul-word : tie.Need-mul-word Inv-loop μ-loop
-mul-word c = ?
-
--- src/main.rt:64:23
-word-requires : tie.Need-word-requires Inv-loop μ-loop
-word-requires c κs = ?
-
--- src/main.rt:64:22
-cast-lengths : tie.Need-cast-lengths Inv-loop μ-loop
-cast-lengths c = ?
-
--- src/main.rt:64:9
-mul-lengths : tie.Need-mul-lengths Inv-loop μ-loop
-mul-lengths c = ?
-
--- src/main.rt:64:9
-slice-write-lengths : tie.Need-slice-write-lengths Inv-loop μ-loop
-slice-write-lengths c = ?
-
--- src/main.rt:65:9
-add-i : tie.Need-add-i Inv-loop μ-loop
-add-i c = ?
-
--- src/main.rt:63:5
 loop-less : tie.Need-loop-less Inv-loop μ-loop
-loop-less c = ?
+loop-less c = let t = c .before .loop-test .taken in omega (arith, c .before .before .loop .inv .1)
 
--- src/main.rt:63:5
 loop-again : tie.Need-loop-again Inv-loop μ-loop
-loop-again c = ?
+loop-again c =
+    let l = c .before .before .loop in
+    let t = c .before .loop-test .taken in
+    (omega (arith, l .inv .1), simp length-set (l .inv .1))
 
--- src/main.rt:61:1
 same-length : tie.Need-same-length Inv-loop μ-loop
-same-length c = ?
-
--- src/main.rt:61:1
-returns : tie.Need-returns Inv-loop μ-loop
-returns c = ?
+same-length c = c .before .loop .inv .1
 
 pub fill-spec : {M : Type 1} → statement M
 fill-spec =
@@ -61,13 +35,13 @@ fill-spec =
     Inv-loop
     μ-loop
     loop-holds
-    mul-word
-    word-requires
-    cast-lengths
-    mul-lengths
-    slice-write-lengths
-    add-i
+    (λ c. search needs)
+    (λ c κs. search needs)
+    (λ c. search needs)
+    (λ c. search needs)
+    (λ c. search needs)
+    (λ c. search needs)
     loop-less
     loop-again
     same-length
-    returns)
+    (λ c. search needs))

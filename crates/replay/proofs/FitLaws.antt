@@ -1,23 +1,23 @@
 -- EACH NUMBER OF AN ANSWER HAS 4 BYTES: a refusal's number is of the table, and no place, count or end passes the declared size, which is below 2^31.
 -- Row by row. Assumes nothing.
-use Prim.Native.Nat.{ℕ, _+_, _≤_, _<_}
+use Prim.Native.Nat.{ℕ, _≤_, _<_}
 use native.Mathlib.Omega.{arith}
-use mathlib.Core.Path.{_≡_, sym, ap}
+use mathlib.Core.Path.{ap}
 use mathlib.Core.Logic.{⊎-elim}
 use mathlib.Core.List.{List}
 use lib.ListN.{length}
 use Rattle.tables.specs.Table.{Row}
 use Rattle.mphr.specs.Layout.{lineStart}
-use Rattle.mphr.specs.Table.{declared, Fine, bad-header, bad-line, bad-frame, bad-value, bad-size, bad-totals}
+use Rattle.mphr.specs.Table.{declared, bad-header, bad-line, bad-frame, bad-value, bad-size, bad-totals}
 use Rattle.mphr.specs.Table as M
 use Rattle.mphr.proofs.LayoutLaws.{start-72, start-mono}
 use Rattle.mphr.proofs.Export.{clean-fine, sized}
-use Rattle.judge.specs.Table.{Site, first, Leads, here, on, Wrong, part-left, unknown, misplaced, surplus, bad-target, points-inside, points-at-other, too-few, rowAt, main, at, too-long}
+use Rattle.judge.specs.Table.{Site, Leads, here, on, Wrong, part-left, unknown, misplaced, surplus, bad-target, points-inside, points-at-other, too-few, rowAt, main, at, too-long}
 use Rattle.judge.specs.Table as J
 use Rattle.judge.proofs.WayLaws.{numbers}
 use Rattle.judge.specs.declared.arrival.Arrival.{Arrival}
 use Rattle.judge.specs.declared.arrival.Arrival.the-variants.{Waiting, Refused}
-use Rattle.watch.specs.Watched.{Fault, known, one-more, row, Given, Open, Watched}
+use Rattle.watch.specs.Watched.{Fault, known, one-more, row, Open, Watched}
 use Rattle.replay.specs.Steps.{Fits}
 
 -- ---- the places

@@ -1,12 +1,12 @@
 -- Numbers put into a room: each stands where it was put, and what was put elsewhere, or was there before, is kept. Assumes nothing.
-use Prim.Native.Nat.{ℕ, _+_, _*_, _^_, _%_, _≤_, _<_}
+use Prim.Native.Nat.{ℕ, _+_, _*_, _≤_, _<_}
 use native.Mathlib.Nat.{mod-eq-of-lt}
 use native.Mathlib.Omega.{arith}
 use mathlib.Core.Path.{_≡_, refl, sym, ap, _∙_, subst}
 use mathlib.Core.Logic.{_⊎_, inl, inr, ⊎-elim}
 use mathlib.Core.List.{List}
 use lib.ListN.{length, getD}
-use Rattle.meter.specs.Integer.{beAt, stored}
+use Rattle.meter.specs.Integer.{stored}
 use Rattle.meter.proofs.IntegerLaws.{stored-length, stored-before, stored-after, back, beAt-same}
 use Rattle.judge.specs.declared.arrival.Arrival.{Arrival}
 use Rattle.replay.specs.Layout.{numberAt, lengthAt, Three, three, threeAt, threeOf, lengthIn}

@@ -1,17 +1,21 @@
 -- THE LAWS OF A REPLAY (02, request Thirteen), over the two definitions and not over the code: what the watch answers is one (One's `unique-watched`), so
 -- an answer of the replay is one, and a record that replays without a difference is, byte for byte, what the watch records. Assumes nothing.
-use Prim.Native.Nat.{ℕ, zero, suc, _+_, _-_, _*_, _/_, _%_, _≤_, _<_}
+use Prim.Native.Nat.{ℕ, suc, _+_, _-_, _*_, _/_, _%_, _≤_, _<_}
 use native.Mathlib.Decide.{decLt, ℕ-discrete}
 use native.Mathlib.Nat.{div-add-mod', mod-lt}
 use native.Mathlib.Omega.{arith}
 use mathlib.Core.Path.{_≡_, refl, sym, ap, _∙_, subst}
-use mathlib.Core.List.{List, _++_}
+use mathlib.Core.List.{List, [], _++_}
 use lib.ListN.{length, getD, take, drop}
 use lib.Seq.{ext-getD, take-at}
 use Rattle.meter.specs.declared.integer.Written.{Written}
 use Rattle.meter.specs.declared.integer.Written.the-variants as W
 use Rattle.meter.proofs.IntegerLaws.{bytes-same}
-use Rattle.watch.proofs.Laws.{unique-watched}
+use Rattle.judge.specs.declared.arrival.Arrival.{Arrival}
+use Rattle.watch.specs.Watched.{Watched}
+use Rattle.watch.specs.Stands.{FedIs, Fresh, Feeds, joined}
+use Rattle.watch.specs.declared.Watch.{Watch}
+use Rattle.watch.proofs.Laws.{unique-watched, stands-for-all}
 use Rattle.replay.specs.Layout.{numberAt, parts, lengthAt, answers, Three, threeAt, answerAt, sizeOf, threeOf, sums, lengthIn}
 use Rattle.replay.specs.Replay.{refusedAt, Answered, Agrees, Differs, Replayable, ReplayIs, missized, uneven, unsummed, none, first}
 use Rattle.replay.specs.Record.{Recordable, recordSize, Bytes, Records, RecordIs, unfit, no-room, written}
@@ -82,6 +86,10 @@ unique-replay r b x y (uneven s n) h = unfit-38 s n h
 unique-replay r b x y (unsummed s e n) h = unfit-39 s e n h
 unique-replay r b x y (none f a) h = fit-none f a h
 unique-replay r b x y (first f k l a d) h = fit-first k f l a d h
+
+-- ---- "record short": one that cannot hold its two counts is refused, whatever a cut count is taken for
+pub too-short : (r b : List ℕ) → length r < 8 → ReplayIs r b (refusedAt 37 0)
+too-short r b h = missized (λ e. omega arith)
 
 -- ---- "name the first part whose answer differs"
 pub names-first : {r b : List ℕ} {k : ℕ} → ReplayIs r b (R.Differs k) → (k < parts r) × ((j : ℕ) → j < k → Agrees r b j) × (Agrees r b k → ⊥)
@@ -220,3 +228,8 @@ unique-record ls b room x y p q (no-room _ l) (written _ h _ _) = absurd (omega 
 unique-record ls b room x y p q (written f _ _ _) (unfit n) = absurd (n f)
 unique-record ls b room x y p q (written _ h _ _) (no-room _ l) = absurd (omega arith)
 unique-record ls b room x y p q (written _ _ r k) (written _ _ s m) = (refl, ap (λ (t : List ℕ). t ++ drop (recordSize ls) room) (unique-records k m))
+
+-- ---- THE WATCH'S OWN ANSWERS: what any watch of request One says after the parts ps and p, fed in turn, is what the record asks for after part k, where
+-- they are the first k + 1 parts of b, however those were cut before
+pub fed-answered : {w u v : Watch} {ps : List (List ℕ)} {p b : List ℕ} {f : ℕ → ℕ} {k : ℕ} {s : Arrival} → Fresh w → Feeds w ps u → FedIs u p v s → joined ps ++ p ≡ take (sums f (suc k)) b → (t : Three) → Answered b f k t → t ≡ threeOf s
+fed-answered {ps = ps} {s = s} n h g e t a = unique-answered a (record { arrival = s; right = subst (λ (x : List ℕ). Watched x s) e (g .says (joined ps) (stands-for-all h [] n)); says = refl })

@@ -1,7 +1,7 @@
 -- Parts fed one after the other: a watch that stands for the parts before part k, fed part k, stands for one more and says what is right of them; and the
 -- loop of the replay by that. Answers compared, number by number. Assumes nothing.
 use Prim.Native.Nat.{ℕ, suc, _+_, _-_, _*_, _≤_, _<_}
-use native.Mathlib.Decide.{decLt, ℕ-discrete}
+use native.Mathlib.Decide.{ℕ-discrete}
 use native.Mathlib.Numerals.{add-one}
 use native.Mathlib.Omega.{arith}
 use mathlib.Core.Path.{_≡_, refl, sym, ap, _∙_, subst}

@@ -1,8 +1,8 @@
--- Sums of lengths: one more, of the same lengths, and no smaller the more there are. Assumes nothing.
-use Prim.Native.Nat.{ℕ, zero, suc, _+_, _-_, _≤_, _<_}
+-- Sums of lengths: one more, of the same lengths, no smaller the more there are; and a sum under way, which fits 64 bits. Assumes nothing.
+use Prim.Native.Nat.{ℕ, zero, suc, _+_, _-_, _*_, _≤_, _<_}
 use native.Mathlib.Numerals.{add-one}
 use native.Mathlib.Omega.{arith}
-use mathlib.Core.Path.{_≡_, refl, ap, _∙_}
+use mathlib.Core.Path.{_≡_, refl, sym, ap, _∙_}
 use Rattle.replay.specs.Layout.{sums}
 
 pub sums-none : (f : ℕ → ℕ) → sums f 0 ≡ 0
@@ -32,3 +32,20 @@ grows f k (suc d) = omega (arith, ap (sums f) (next k d), sums-suc f (k + d), gr
 
 pub sums-le : (f : ℕ → ℕ) (k n : ℕ) → k ≤ n → sums f k ≤ sums f n
 sums-le f k n h = let e : k + (n - k) ≡ n = omega arith in omega (arith, grows f k (n - k), ap (sums f) e)
+
+-- ---- s is the sum of the first k lengths, each of which is below 2^32
+pub record Summed (f : ℕ → ℕ) (k s : ℕ) : Type 0 where
+  pub is : s ≡ sums f k
+  pub most : s ≤ 4294967295 * k
+
+pub summed-none : (f : ℕ → ℕ) → Summed f 0 0
+summed-none f = record { is = sym (sums-none f); most = omega arith }
+
+pub summed-more : {f : ℕ → ℕ} {k s x : ℕ} → Summed f k s → x ≡ f k → x < 4294967296 → Summed f (k + 1) (s + x)
+summed-more {f} {k} h e l = record { is = omega (arith, h .is, e, sums-more f k); most = omega (arith, h .most) }
+
+pub summed-fits : {f : ℕ → ℕ} {k s x : ℕ} → Summed f k s → k < 4294967296 → x < 4294967296 → s + x < 18446744073709551616
+summed-fits h l m = omega (arith, h .most)
+
+pub summed-all : {f : ℕ → ℕ} {k n s : ℕ} → Summed f k s → k ≡ n → s ≡ sums f n
+summed-all {f} h e = h .is ∙ ap (sums f) e

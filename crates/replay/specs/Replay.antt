@@ -1,7 +1,7 @@
 -- WHAT A REPLAY ANSWERS (02, request Thirteen: "Given the record and the product, replay the watch and name the first part whose answer differs, or none.
 -- .. Refusals in this order: 37, record short or long; 38, counts unequal; 39, lengths that don't sum to the product's length; place 0"). What the watch
 -- answers is a relation, One's `Watched` of all that was fed. Assumes nothing.
-use Prim.Native.Nat.{ℕ, suc, _+_, _<_}
+use Prim.Native.Nat.{ℕ, suc, _<_}
 use mathlib.Core.Path.{_≡_}
 use mathlib.Core.List.{List}
 use lib.ListN.{length, take}

@@ -7,7 +7,7 @@ ghost use Prim.Native.Nat.{_+_, _*_, _≤_, _<_};
 ghost use lib.Dec.{eqb};
 ghost use lib.ListN.{length};
 ghost use Rattle.replay.specs.Layout.{sizeOf, lengthAt, sums};
-ghost use Rattle.replay.specs.Replay.{refusedAt, Replayable, ReplayIs};
+ghost use Rattle.replay.specs.Replay.{refusedAt, ReplayIs};
 ghost use Rattle.replay.specs.Steps.{HasLengths, IsAnswer, AgreesIs, Parts};
 
 // `Differs` has the first part whose answer differs, counted from 0.

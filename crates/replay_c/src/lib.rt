@@ -35,7 +35,8 @@ pub extern "C" fn wl_record_arrival(
     room: &mut [u8],
     answer: &mut [u64; 4],
 )
-    ensures { λ _. ⌜ RecordTold (now (lengths .entry)) (now (product .entry)) (now (room .entry)) (now (room .exit)) (now (answer .exit)) ⌝ }
+    ensures { λ _. ⌜ RecordTold (now (lengths .entry)) (now (product .entry)) (now (room .entry)) (now (room .exit))
+        (now (answer .exit)) ⌝ }
 {
     put_written(answer, replay::write::write_record(lengths, product, room));
 }

@@ -1,5 +1,5 @@
 -- `replay_c::put_replayed` meets its contract: the numbers are those of the variant. Assumes nothing.
-use mathlib.Core.Path.{_≡_, sym, ap}
+use mathlib.Core.Path.{sym, ap}
 use borrow.Author.Needs.{needs}
 use Rattle.replay_c.specs.Replaying.{replayedSaid}
 use Rattle.replay_c.proofs.put_replayed.Statement.{statement}

@@ -1,5 +1,5 @@
 -- `replay::run::is_answer` meets its contract: number by number. Assumes nothing.
-use mathlib.Core.Path.{_≡_, _∙_, sym}
+use mathlib.Core.Path.{_∙_, sym}
 use Rattle.replay.proofs.RunLaws.{number-no, place-no, count-is}
 use borrow.Author.Needs.{needs}
 use Rattle.replay.proofs.run.is_answer.Statement.{statement}

@@ -1,13 +1,12 @@
 -- `replay::run::replay` meets its contract: the refusals in order, and what the parts come to. Assumes nothing.
 use mathlib.Core.Path.{_≡_, sym, ap, _∙_}
-use mathlib.Core.Bool.{true, false}
-use Prim.Native.Nat.{ℕ, _+_, _*_, _≤_, _<_}
+use Prim.Native.Nat.{ℕ, _+_}
 use native.Mathlib.Omega.{arith}
 use borrow.Author.Tests.{not-true, not-false}
 use denote.Ref.{now}
 use lib.ListN.{length}
 use Rattle.replay.specs.Layout.{numberAt, parts, lengthAt, answers, sizeOf, sums}
-use Rattle.replay.specs.Replay.{ReplayIs, missized, uneven, unsummed}
+use Rattle.replay.specs.Replay.{missized, uneven, unsummed}
 use Rattle.replay.proofs.RunLaws.{eqb-yes, eqb-no, refused-as}
 use borrow.Author.Needs.{needs}
 use Rattle.replay.proofs.run.replay.Statement.{statement}

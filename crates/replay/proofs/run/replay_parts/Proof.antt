@@ -1,6 +1,6 @@
 -- `replay::run::replay_parts` meets its contract. The invariant: the watch stands for the parts before k, and the record agrees with each of its answers
 -- (RunLaws). Assumes nothing.
-use mathlib.Core.Path.{_≡_, refl, sym, ap, _∙_}
+use mathlib.Core.Path.{_≡_, refl, ap}
 use Prim.Native.Nat.{ℕ, _+_, _-_, _*_, _≤_, _<_}
 use native.Mathlib.Omega.{arith}
 use borrow.Author.Tests.{not-true, not-false}

@@ -1,5 +1,4 @@
 -- `replay::write::put_answer` meets its contract: the three numbers of each variant. Assumes nothing.
-use native.Mathlib.Omega.{arith}
 use Rattle.replay.proofs.PutLaws.{puts-of, fits-of}
 use borrow.Author.Needs.{needs}
 use Rattle.replay.proofs.write.put_answer.Statement.{statement}

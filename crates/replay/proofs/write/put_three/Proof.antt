@@ -1,8 +1,6 @@
 -- `replay::write::put_three` meets its contract: number by number (PutLaws). Assumes nothing.
-use mathlib.Core.Path.{_≡_, sym, ap, _∙_}
-use native.Mathlib.Omega.{arith}
 use denote.Ref.{now}
-use Rattle.replay.proofs.PutLaws.{put-three, put-kept, puts-as}
+use Rattle.replay.proofs.PutLaws.{put-three, puts-as}
 use borrow.Author.Needs.{needs}
 use Rattle.replay.proofs.write.put_three.Statement.{statement}
 use Rattle.replay.proofs.write.put_three.Tie as tie

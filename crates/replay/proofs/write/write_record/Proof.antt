@@ -1,5 +1,5 @@
 -- `replay::write::write_record` meets its contract: the refusals in order, and the record (WriteLaws). Assumes nothing.
-use mathlib.Core.Path.{_≡_, sym, _∙_}
+use mathlib.Core.Path.{sym, _∙_}
 use native.Mathlib.Omega.{arith}
 use denote.Ref.{now}
 use Rattle.replay.specs.Record.{Recordable, unfit, no-room}

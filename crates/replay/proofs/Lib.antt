@@ -4,3 +4,4 @@ pub mod RunLaws
 pub mod PutLaws
 pub mod WriteLaws
 pub mod ReplayLaws
+pub mod Example

@@ -11,14 +11,12 @@ use lib.Seq.{ext-getD, take-at}
 use Rattle.meter.specs.declared.integer.Written.{Written}
 use Rattle.meter.specs.declared.integer.Written.the-variants as W
 use Rattle.meter.proofs.IntegerLaws.{bytes-same}
-use Rattle.judge.specs.declared.arrival.Arrival.{Arrival}
 use Rattle.watch.specs.Watched.{Watched}
-use Rattle.watch.specs.Stands.{FedIs, Fresh, Feeds, joined}
-use Rattle.watch.specs.declared.Watch.{Watch}
+use Rattle.watch.specs.Stands.{joined}
 use Rattle.watch.proofs.Laws.{unique-watched, stands-for-all}
 use Rattle.replay.specs.Layout.{numberAt, parts, lengthAt, answers, Three, threeAt, answerAt, sizeOf, threeOf, sums, lengthIn}
 use Rattle.replay.specs.Replay.{refusedAt, Answered, Agrees, Differs, Replayable, ReplayIs, missized, uneven, unsummed, none, first}
-use Rattle.replay.specs.Record.{Recordable, recordSize, Bytes, Records, RecordIs, unfit, no-room, written}
+use Rattle.replay.specs.Record.{Recordable, recordSize, Bytes, Records, RecordIs, unfit, no-room, written, Fed}
 use Rattle.replay.specs.declared.run.Replayed.{Replayed}
 use Rattle.replay.specs.declared.run.Replayed.the-variants as R
 use Rattle.replay.proofs.SumLaws.{sums-same}
@@ -229,7 +227,17 @@ unique-record ls b room x y p q (written f _ _ _) (unfit n) = absurd (n f)
 unique-record ls b room x y p q (written _ h _ _) (no-room _ l) = absurd (omega arith)
 unique-record ls b room x y p q (written _ _ r k) (written _ _ s m) = (refl, ap (λ (t : List ℕ). t ++ drop (recordSize ls) room) (unique-records k m))
 
--- ---- THE WATCH'S OWN ANSWERS: what any watch of request One says after the parts ps and p, fed in turn, is what the record asks for after part k, where
--- they are the first k + 1 parts of b, however those were cut before
-pub fed-answered : {w u v : Watch} {ps : List (List ℕ)} {p b : List ℕ} {f : ℕ → ℕ} {k : ℕ} {s : Arrival} → Fresh w → Feeds w ps u → FedIs u p v s → joined ps ++ p ≡ take (sums f (suc k)) b → (t : Three) → Answered b f k t → t ≡ threeOf s
-fed-answered {ps = ps} {s = s} n h g e t a = unique-answered a (record { arrival = s; right = subst (λ (x : List ℕ). Watched x s) e (g .says (joined ps) (stands-for-all h [] n)); says = refl })
+-- ---- THE WATCH'S OWN ANSWERS: what a watch of request One answers after the first k + 1 parts is what is right of them
+pub fed-answered : {b : List ℕ} {f : ℕ → ℕ} {k : ℕ} {t : Three} → Fed b f k t → Answered b f k t
+fed-answered x = record {
+  arrival = x .answer;
+  right = subst (λ (a : List ℕ). Watched a (x .answer)) (x .bytes) (x .fed .says (joined (x .earlier)) (stands-for-all (x .feeds) [] (x .fresh)));
+  says = x .says;
+}
+
+-- so a record that anyone made by feeding a watch, of the parts that it names, gives none; and one that gives none has that watch's answers
+pub fed-gives-none : {r b : List ℕ} → Replayable r b → ((k : ℕ) → k < parts r → Fed b (lengthAt r) k (answerAt r k)) → (x : Replayed) → ReplayIs r b x → x ≡ R.Same
+fed-gives-none {r} {b} f h x y = unique-replay r b x R.Same y (none f (λ k l. fed-answered (h k l)))
+
+pub none-is-fed : {r b : List ℕ} → ReplayIs r b R.Same → (k : ℕ) → k < parts r → (t : Three) → Fed b (lengthAt r) k t → answerAt r k ≡ t
+none-is-fed h k l t x = unique-answered (vouches h .1 k l) (fed-answered x)

@@ -1,12 +1,15 @@
 -- WHAT THE WATCH RECORDS (02, request Thirteen: "We record downloads and want to rerun them") of a product that comes in parts of given lengths: 39 where
 -- they do not sum to its length or are more than a record counts, then 18 with the bytes needed. Assumes nothing.
-use Prim.Native.Nat.{ℕ, _+_, _*_, _≤_, _<_}
+use Prim.Native.Nat.{ℕ, suc, _+_, _*_, _≤_, _<_}
 use mathlib.Core.Path.{_≡_}
 use mathlib.Core.List.{List, _++_}
-use lib.ListN.{length, getD, drop}
+use lib.ListN.{length, getD, take, drop}
 use Rattle.meter.specs.declared.integer.Written.{Written}
 use Rattle.meter.specs.declared.integer.Written.the-variants as W
-use Rattle.replay.specs.Layout.{lengthAt, answerAt, sums, lengthIn}
+use Rattle.judge.specs.declared.arrival.Arrival.{Arrival}
+use Rattle.watch.specs.Stands.{FedIs, Fresh, Feeds, joined}
+use Rattle.watch.specs.declared.Watch.{Watch}
+use Rattle.replay.specs.Layout.{lengthAt, Three, answerAt, threeOf, sums, lengthIn}
 use Rattle.replay.specs.Layout as L
 use Rattle.replay.specs.Replay.{Answered}
 
@@ -40,3 +43,18 @@ pub data RecordIs (ls b room : List ℕ) : Written → List ℕ → Type 0 where
   no-room : Recordable ls b → length room < recordSize ls → RecordIs ls b room (refusedWith 18 (recordSize ls)) room
   written :
       Recordable ls b → recordSize ls ≤ length room → (r : List ℕ) → Records ls b r → RecordIs ls b room (W.Bytes (recordSize ls)) (r ++ drop (recordSize ls) room)
+
+-- "WHAT THE WATCH RECORDED", by request One's own words for feeding: some watch, new and then fed the first k + 1 parts of b, cut up in any way before the last
+-- of them, answered t
+pub record Fed (b : List ℕ) (f : ℕ → ℕ) (k : ℕ) (t : Three) : Type 0 where
+  pub new : Watch
+  pub before : Watch
+  pub after : Watch
+  pub earlier : List (List ℕ)
+  pub last : List ℕ
+  pub answer : Arrival
+  pub fresh : Fresh new
+  pub feeds : Feeds new earlier before
+  pub fed : FedIs before last after answer
+  pub bytes : joined earlier ++ last ≡ take (sums f (suc k)) b
+  pub says : t ≡ threeOf answer

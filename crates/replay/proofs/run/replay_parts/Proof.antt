@@ -1,0 +1,126 @@
+-- `replay::run::replay_parts` meets its contract. The invariant: the watch stands for the parts before k, and the record agrees with each of its answers
+-- (RunLaws). Assumes nothing.
+use mathlib.Core.Path.{_≡_, refl, ap}
+use Prim.Native.Nat.{ℕ, _+_, _-_, _*_, _≤_, _<_}
+use native.Mathlib.Omega.{arith}
+use borrow.Author.Tests.{not-true, not-false}
+use denote.Ref.{now}
+use lib.ListN.{length}
+use Rattle.replay.specs.Layout.{lengthAt}
+use Rattle.replay.proofs.RunLaws.{Running, starts, part-within, ends-none, goes-on, ends-first}
+use borrow.Author.Needs.{needs}
+use Rattle.replay.proofs.run.replay_parts.Statement.{statement}
+use Rattle.replay.proofs.run.replay_parts.Tie as tie
+
+abbrev Inv-loop : tie.InvT-loop
+Inv-loop recorded product n w₀ at₀ k₀ w at k = Running recorded product w at k
+
+abbrev μ-loop : tie.MeasureT-loop
+μ-loop recorded product n w₀ at₀ k₀ w at k = n - k
+
+-- the numbers of part k are in the record
+room : (c : tie.In-loop Inv-loop μ-loop) →
+    let s = c .before .before .before .before .before in
+    (20 + 4 * s .args .n + 12 * c .before .loop .k ≤ length (now (s .args .recorded))) × (c .before .loop .k < s .args .n)
+room c =
+    let s = c .before .before .before .before .before in
+    let f = s .pre .fit in
+    (omega (arith, s .pre .counted, f .sized, f .even, c .loop-test .taken), c .loop-test .taken)
+
+-- the length that was read
+far : (c : tie.After-number-at Inv-loop μ-loop) →
+    let l = c .before .before in
+    l .loop .at + c .number-at .result ≡ l .loop .at + lengthAt (now (l .before .before .before .before .args .recorded)) (l .loop .k)
+far c = ap (λ (m : ℕ). c .before .before .loop .at + m) (c .number-at .ensures .0)
+
+within : (c : tie.After-number-at Inv-loop μ-loop) →
+    let l = c .before .before in
+    l .loop .at + c .number-at .result ≤ length (now (l .before .before .before .before .args .product))
+within c =
+    let l = c .before .before in
+    let p = l .before .before .before .before .pre in
+    let w = part-within (l .loop .inv .before) (omega (arith, p .counted, c .before .loop-test .taken)) (p .fit .summed) in
+    omega (arith, far c)
+
+loop-holds : tie.Need-loop-holds Inv-loop μ-loop
+loop-holds c = starts _ _ (c .new .result) (c .new .ensures)
+
+add-number-at : tie.Need-add-number-at Inv-loop μ-loop
+add-number-at c = let p = room c in omega arith
+
+number-at-requires : tie.Need-number-at-requires Inv-loop μ-loop
+number-at-requires c κs = let p = room c in omega arith
+
+add-to : tie.Need-add-to Inv-loop μ-loop
+add-to c = let w = within c in omega arith
+
+sub-step : tie.Need-sub-step Inv-loop μ-loop
+sub-step c = omega arith
+
+part-step-start : tie.Need-part-step-start Inv-loop μ-loop
+part-step-start c = let w = within c in omega arith
+
+part-step-end : tie.Need-part-step-end Inv-loop μ-loop
+part-step-end c = let w = within c in omega arith
+
+add-is-recorded : tie.Need-add-is-recorded Inv-loop μ-loop
+add-is-recorded c = let p = room (c .before .before .before) in omega arith
+
+mul-is-recorded : tie.Need-mul-is-recorded Inv-loop μ-loop
+mul-is-recorded c = let p = room (c .before .before .before) in omega arith
+
+add-is-recorded-2 : tie.Need-add-is-recorded-2 Inv-loop μ-loop
+add-is-recorded-2 c = let p = room (c .before .before .before) in omega arith
+
+is-recorded-requires : tie.Need-is-recorded-requires Inv-loop μ-loop
+is-recorded-requires c κs = let p = room (c .before .before .before) in omega arith
+
+returns : tie.Need-returns Inv-loop μ-loop
+returns c =
+    let s = c .before .before in
+    let l = s .before .before .before .before in
+    let p = l .before .before .before .before .pre in
+    ends-first (p .fit) (p .counted) (l .loop .inv) (s .before .before .before .loop-test .taken) _ (far (s .before .before)) refl (s .step .ensures) (c .before .is-recorded .ensures) (not-true (c .before .is-recorded .result) (c .if1 .taken))
+
+add-k : tie.Need-add-k Inv-loop μ-loop
+add-k c = let p = room (c .before .before .before .before .before .before) in omega arith
+
+loop-less : tie.Need-loop-less Inv-loop μ-loop
+loop-less c = let t = c .before .before .before .before .before .before .loop-test .taken in omega arith
+
+loop-again : tie.Need-loop-again Inv-loop μ-loop
+loop-again c =
+    let s = c .before .before .before in
+    let l = s .before .before .before .before in
+    let p = l .before .before .before .before .pre in
+    goes-on (p .fit) (p .counted) (l .loop .inv) (s .before .before .before .loop-test .taken) _ (far (s .before .before)) refl (s .step .ensures) (c .before .before .is-recorded .ensures) (not-false (c .before .before .is-recorded .result) (c .before .if1 .left))
+
+returns-2 : tie.Need-returns-2 Inv-loop μ-loop
+returns-2 c =
+    let p = c .before .before .before .before .before .pre in
+    ends-none (p .fit) (p .counted) (c .before .loop .inv) (c .loop-test .left)
+
+pub replay-parts-spec : {M : Type 1} → statement M
+replay-parts-spec =
+    tie.close
+    (tie.spec
+    Inv-loop
+    μ-loop
+    (λ c κs. search needs)
+    loop-holds
+    add-number-at
+    number-at-requires
+    add-to
+    sub-step
+    part-step-start
+    part-step-end
+    (λ c κs. search needs)
+    add-is-recorded
+    mul-is-recorded
+    add-is-recorded-2
+    is-recorded-requires
+    returns
+    add-k
+    loop-less
+    loop-again
+    returns-2)

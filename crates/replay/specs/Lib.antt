@@ -1,0 +1,4 @@
+pub mod Layout
+pub mod Replay
+pub mod Record
+pub mod Steps

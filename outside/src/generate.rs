@@ -285,8 +285,31 @@ pub fn few_kinds(rng: &mut Rng, p: &mut Product) {
     name_targets(p);
 }
 
+/// VIADRs and MDRs as a Level 0 product has them (request Nine), and dummies among the MDRs. Some of them are then beside what it has, in one number.
+pub fn level0_kinds(rng: &mut Rng, p: &mut Product) {
+    for s in &p.starts[1..] {
+        let kind = match p.bytes[*s] {
+            7 => [0, 0, rng.pick(&[1, 2])],
+            8 if rng.one_in(6) => [13, rng.below(256) as u8, rng.below(4) as u8],
+            8 => [0, rng.below(5) as u8, 1],
+            _ => continue,
+        };
+        p.bytes[s + 1..s + 4].copy_from_slice(&kind);
+    }
+    for _ in 0..rng.pick(&[0, 0, 1, 1, 2, 3]) {
+        let s = rng.pick(&p.starts);
+        match rng.below(3) {
+            _ if s == 0 => {}
+            0 => p.bytes[s + 1] = rng.pick(&GROUPS),
+            1 => p.bytes[s + 2] = rng.pick(&[0, 1, 4, 5, 6, 13, 127, 128, 255]),
+            _ => p.bytes[s + 3] = rng.pick(&[0, 1, 2, 3, 129, 255]),
+        }
+    }
+    name_targets(p);
+}
+
 /// Each pointer names the class, group and subclass of the record at its target.
-fn name_targets(p: &mut Product) {
+pub fn name_targets(p: &mut Product) {
     for s in &p.pointers {
         let target = u32_at(&p.bytes, s + 23) as usize;
         p.bytes.copy_within(target..target + 3, s + 20);

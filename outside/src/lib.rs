@@ -7,6 +7,7 @@ pub mod join;
 pub mod json;
 pub mod leap;
 pub mod leaves;
+pub mod level0;
 pub mod lines;
 pub mod lookup;
 pub mod plain;

@@ -1,10 +1,10 @@
 //! Times of the judges on large products, of the watch, of the cut and of the join: medians of runs taken in turn. The finished judges fill the same
 //! rows.
-use outside::generate::{build, set_number, Product, Rng, Shape, GROUPS};
+use outside::generate::{build, name_targets, set_number, Product, Rng, Shape, GROUPS};
 use outside::leaves::read_header;
 use outside::values::Time;
 use outside::watch::Watch;
-use outside::{check, cut, fast, join, lookup, uth, Arrival, Finished};
+use outside::{check, cut, fast, join, level0, lookup, uth, Arrival, Finished};
 use std::cell::RefCell;
 use std::hint::black_box;
 use std::time::Instant;
@@ -139,6 +139,44 @@ fn measure(what: &str, make: impl Fn() -> Product, runs: usize, times: usize) {
     assert!(rows.borrow().iter().zip(&p.starts).all(|(a, b)| a[0] as usize == *b));
     ratio(&all, "finished boundary", "finished fast");
     ratio(&all, "arrival boundary", "arrival fast");
+}
+
+/// The VIADRs and MDRs of a product as a Level 0 product has them.
+fn raw_level(mut p: Product) -> Product {
+    for (k, s) in p.starts.iter().enumerate() {
+        let kind = match p.bytes[*s] {
+            7 => [0, 0, 2],
+            8 => [0, (k % 5) as u8, 1],
+            _ => continue,
+        };
+        p.bytes[s + 1..s + 4].copy_from_slice(&kind);
+    }
+    name_targets(&mut p);
+    p
+}
+
+/// The profile judges beside the finished ones, which fill the same rows.
+fn measure_level0(what: &str, p: Product, runs: usize) {
+    let p = &raw_level(p);
+    let (bytes, count) = (&p.bytes, p.starts.len());
+    let rows = &RefCell::new(vec![[0; 7]; count]);
+    let accepted = Finished::Accepted { count: count as u64 };
+    println!("{what}: {} bytes, {count} records, {} pointers", bytes.len(), p.pointers.len());
+    let all = rounds(
+        runs,
+        1,
+        vec![
+            ("finished fast", Box::new(|| assert_eq!(fast::finished(black_box(bytes), &mut rows.borrow_mut()), accepted))),
+            ("level0", Box::new(|| assert_eq!(level0::level0(black_box(bytes), &mut rows.borrow_mut()), accepted))),
+            #[cfg(feature = "boundary")]
+            ("finished boundary", Box::new(|| assert_eq!(boundary::finished(black_box(bytes), &mut rows.borrow_mut()), accepted))),
+            #[cfg(feature = "boundary")]
+            ("level0 boundary", Box::new(|| assert_eq!(boundary::level0(black_box(bytes), &mut rows.borrow_mut()), accepted))),
+        ],
+    );
+    ratio(&all, "level0", "finished fast");
+    ratio(&all, "level0 boundary", "finished boundary");
+    ratio(&all, "level0 boundary", "level0");
 }
 
 /// A new watch is fed the bytes in parts of one length; the last answer.
@@ -384,6 +422,10 @@ fn main() {
     // Not asked for, but the other path: targets that descend. The boundary may take long here, so it is left out unless SCATTERED is set.
     if !cfg!(feature = "boundary") || std::env::var_os("SCATTERED").is_some() {
         measure("scattered", || large(10, 20_000, 335, 20_000, false), runs, 1);
+    }
+    if !left_out("level0") {
+        measure_level0("level0", even(64, false), runs);
+        measure_level0("level0, uneven", even(64, true), runs);
     }
     if !left_out("watch") {
         let p = even(64, false);

@@ -6,6 +6,7 @@ extern "C" {
     fn wl_arrival(bytes: *const u8, len: usize, answer: &mut [u64; 4]);
     fn wl_extent(bytes: *const u8, len: usize, answer: &mut [u64; 4]);
     fn wl_finished(bytes: *const u8, len: usize, rows: *mut [u32; 7], room: usize, answer: &mut [u64; 4]);
+    fn wl_level0(bytes: *const u8, len: usize, rows: *mut [u32; 7], room: usize, answer: &mut [u64; 4]);
 
     fn wl_watch_new(watch: &mut Watch);
     fn wl_watch_feed(watch: &mut Watch, part: *const u8, len: usize, answer: &mut [u64; 4]);
@@ -154,6 +155,11 @@ pub fn extent(bytes: &[u8]) -> [u64; 4] {
 pub fn finished(bytes: &[u8], rows: &mut [[u32; 7]]) -> [u64; 4] {
     // SAFETY: as above.
     answered(|answer| unsafe { wl_finished(bytes.as_ptr(), bytes.len(), rows.as_mut_ptr(), rows.len(), answer) })
+}
+
+pub fn level0(bytes: &[u8], rows: &mut [[u32; 7]]) -> [u64; 4] {
+    // SAFETY: as above.
+    answered(|answer| unsafe { wl_level0(bytes.as_ptr(), bytes.len(), rows.as_mut_ptr(), rows.len(), answer) })
 }
 
 pub fn watch_new() -> Watch {

@@ -2,6 +2,7 @@
 pub mod form;
 pub mod raw;
 
+use crate::month::Report;
 use crate::values::{Date, Field, GroundPoint, Header, Moment, Reading, Record, Refusal, Scaled, Time, UthBlock, Which};
 use crate::{Arrival, Finished, Row};
 use std::cmp::Ordering;
@@ -199,6 +200,25 @@ pub fn check_cut(original: &[u8], cut: &[u8]) -> Result<Option<u64>, Refusal> {
         [_, _, 1, 0] => Ok(None),
         [_, _, 0, place] => Ok(Some(place)),
         other => panic!("wl_check_cut answered {other:?}"),
+    }
+}
+
+// ---- the month report
+
+/// One product more in a report: its own refusal, which is counted, or `None` where it is accepted; or 36, the report kept.
+pub fn report_add(report: &mut Report, bytes: &[u8]) -> Result<Option<Refusal>, Refusal> {
+    match form::said(raw::report_add(report, bytes))? {
+        [_, _, 0, 0] => Ok(None),
+        [_, _, number @ 1..=17, place] => Ok(Some(Refusal { number, place })),
+        other => panic!("wl_report_add answered {other:?}"),
+    }
+}
+
+/// The products of another report too; or 36, the report kept.
+pub fn report_merge(report: &mut Report, other: &Report) -> Result<(), Refusal> {
+    match form::said(raw::report_merge(report, other))? {
+        [_, _, 0, 0] => Ok(()),
+        other => panic!("wl_report_merge answered {other:?}"),
     }
 }
 

@@ -10,6 +10,7 @@ pub mod leaves;
 pub mod level0;
 pub mod lines;
 pub mod lookup;
+pub mod month;
 pub mod plain;
 pub mod records;
 pub mod seen;

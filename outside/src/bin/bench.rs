@@ -2,9 +2,9 @@
 //! rows.
 use outside::generate::{build, name_targets, set_number, Product, Rng, Shape, GROUPS};
 use outside::leaves::read_header;
-use outside::values::Time;
+use outside::values::{Refusal, Time};
 use outside::watch::Watch;
-use outside::{check, cut, fast, join, level0, lookup, uth, Arrival, Finished};
+use outside::{check, cut, fast, join, level0, lookup, month, uth, Arrival, Finished};
 use std::cell::RefCell;
 use std::hint::black_box;
 use std::time::Instant;
@@ -177,6 +177,31 @@ fn measure_level0(what: &str, p: Product, runs: usize) {
     ratio(&all, "level0", "finished fast");
     ratio(&all, "level0 boundary", "finished boundary");
     ratio(&all, "level0 boundary", "level0");
+}
+
+/// Products into a new report, one after the other, beside their verdicts.
+fn measure_month(what: &str, products: &[Product], runs: usize) {
+    let records: usize = products.iter().map(|p| p.starts.len()).sum();
+    println!("{what}: {} products, {} bytes, {records} records", products.len(), products.iter().map(|p| p.bytes.len()).sum::<usize>());
+    let reported = |add: fn(&mut month::Report, &[u8]) -> Result<Option<Refusal>, Refusal>| {
+        let mut report = [0; month::NUMBERS];
+        for p in products {
+            assert_eq!(add(&mut report, black_box(&p.bytes)), Ok(None));
+        }
+        assert_eq!(report[1..=8].iter().sum::<u64>(), records as u64);
+    };
+    let all = rounds(
+        runs,
+        1,
+        vec![
+            ("verdicts fast", Box::new(|| products.iter().for_each(|p| assert!(fast::verdict(black_box(&p.bytes)).is_ok())))),
+            ("report", Box::new(|| reported(month::add))),
+            #[cfg(feature = "boundary")]
+            ("report boundary", Box::new(|| reported(boundary::report_add))),
+        ],
+    );
+    ratio(&all, "report", "verdicts fast");
+    ratio(&all, "report boundary", "report");
 }
 
 /// A new watch is fed the bytes in parts of one length; the last answer.
@@ -426,6 +451,11 @@ fn main() {
     if !left_out("level0") {
         measure_level0("level0", even(64, false), runs);
         measure_level0("level0, uneven", even(64, true), runs);
+    }
+    if !left_out("month") {
+        let products: Vec<Product> = (0..4096).map(|seed| large(seed, 99, 100, 0, true)).collect();
+        measure_month("month", &products, runs);
+        measure_month("month, one product", &[even(64, false)], runs);
     }
     if !left_out("watch") {
         let p = even(64, false);

@@ -31,6 +31,9 @@ extern "C" {
     );
     fn wl_check_cut(original: *const u8, len: usize, cut: *const u8, cut_len: usize, answer: &mut [u64; 4]);
 
+    fn wl_report_add(report: &mut [u64; 38], bytes: *const u8, len: usize, answer: &mut [u64; 4]);
+    fn wl_report_merge(report: &mut [u64; 38], other: &[u64; 38], answer: &mut [u64; 4]);
+
     #[rustfmt::skip]
     fn wl_uth(
         bytes: *const u8, len: usize, blocks: *mut [u32; 4], room: usize, values: *mut [f32; 2], values_room: usize, answer: &mut [u64; 4],
@@ -236,6 +239,16 @@ pub fn join(first: &[u8], second: &[u8], room: &mut [u8]) -> [u64; 4] {
 pub fn check_cut(original: &[u8], cut: &[u8]) -> [u64; 4] {
     // SAFETY: as above.
     answered(|answer| unsafe { wl_check_cut(original.as_ptr(), original.len(), cut.as_ptr(), cut.len(), answer) })
+}
+
+pub fn report_add(report: &mut [u64; 38], bytes: &[u8]) -> [u64; 4] {
+    // SAFETY: as above; the report has its places.
+    answered(|answer| unsafe { wl_report_add(report, bytes.as_ptr(), bytes.len(), answer) })
+}
+
+pub fn report_merge(report: &mut [u64; 38], other: &[u64; 38]) -> [u64; 4] {
+    // SAFETY: as above; each report has its places.
+    answered(|answer| unsafe { wl_report_merge(report, other, answer) })
 }
 
 pub fn is_date((year, month, day): (u16, u8, u8)) -> [u64; 4] {

@@ -3,6 +3,7 @@ pub mod form;
 pub mod raw;
 
 use crate::month::Report;
+use crate::replay::record_size;
 use crate::values::{Date, Field, GroundPoint, Header, Moment, Reading, Record, Refusal, Scaled, Time, UthBlock, Which};
 use crate::{Arrival, Finished, Row};
 use std::cmp::Ordering;
@@ -201,6 +202,30 @@ pub fn check_cut(original: &[u8], cut: &[u8]) -> Result<Option<u64>, Refusal> {
         [_, _, 0, place] => Ok(Some(place)),
         other => panic!("wl_check_cut answered {other:?}"),
     }
+}
+
+// ---- records of arrivals
+
+/// The first part, counted from 0, whose answer is not as the record has it; `None` where all are.
+pub fn replay(record: &[u8], product: &[u8]) -> Result<Option<u64>, Refusal> {
+    match form::said(raw::replay(record, product))? {
+        [_, _, 0, 0] => Ok(None),
+        [_, _, 1, part] => Ok(Some(part)),
+        other => panic!("wl_replay answered {other:?}"),
+    }
+}
+
+/// The record of a product that comes in parts of these lengths, at the start of the room, as so many bytes.
+pub fn record_arrival_into(lengths: &[u32], product: &[u8], room: &mut [u8]) -> Result<usize, Refusal> {
+    form::written(raw::record_arrival(lengths, product, room), room.len())
+}
+
+/// The record of a product that comes in parts of these lengths.
+pub fn record_arrival(lengths: &[u32], product: &[u8]) -> Result<Vec<u8>, Refusal> {
+    let mut room = vec![0; record_size(lengths.len())];
+    let written = record_arrival_into(lengths, product, &mut room)?;
+    room.truncate(written);
+    Ok(room)
 }
 
 // ---- the month report

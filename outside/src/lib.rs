@@ -13,6 +13,7 @@ pub mod lookup;
 pub mod month;
 pub mod plain;
 pub mod records;
+pub mod replay;
 pub mod seen;
 pub mod uth;
 pub mod values;

@@ -4,7 +4,7 @@ use outside::generate::{build, name_targets, set_number, Product, Rng, Shape, GR
 use outside::leaves::read_header;
 use outside::values::{Refusal, Time};
 use outside::watch::Watch;
-use outside::{check, cut, fast, join, level0, lookup, month, uth, Arrival, Finished};
+use outside::{check, cut, fast, join, level0, lookup, month, replay, uth, Arrival, Finished};
 use std::cell::RefCell;
 use std::hint::black_box;
 use std::time::Instant;
@@ -238,6 +238,41 @@ fn measure_watch(p: &Product, length: usize, runs: usize, times: usize) {
     ratio(&all, "watch boundary", "arrival boundary");
 }
 
+/// The replays of a product in parts of one length, and the writers of its record, beside the watches that are fed the same parts.
+fn measure_replay(p: &Product, length: usize, runs: usize, times: usize) {
+    let bytes = &p.bytes;
+    let waiting = Arrival::Waiting { count: p.starts.len() as u64, end: bytes.len() as u64 };
+    let lengths = &bytes.chunks(length).map(|part| part.len() as u32).collect::<Vec<u32>>();
+    let size = replay::record_size(lengths.len());
+    let room = &RefCell::new(vec![0; size]);
+    assert_eq!(replay::record_arrival(lengths, bytes, &mut room.borrow_mut()), Ok(size));
+    let record = &room.borrow().clone();
+    println!("replay: {} bytes, {} records, {} pointers, in parts of {length}", bytes.len(), p.starts.len(), p.pointers.len());
+    let all = rounds(
+        runs,
+        times,
+        vec![
+            ("watch", Box::new(|| assert_eq!(watched(bytes, length), waiting))),
+            ("replay", Box::new(|| assert_eq!(replay::replay(record, black_box(bytes)), Ok(None)))),
+            ("record", Box::new(|| assert_eq!(replay::record_arrival(lengths, black_box(bytes), &mut room.borrow_mut()), Ok(size)))),
+            #[cfg(feature = "boundary")]
+            ("watch boundary", Box::new(|| assert_eq!(watched_boundary(bytes, length), waiting))),
+            #[cfg(feature = "boundary")]
+            ("replay boundary", Box::new(|| assert_eq!(boundary::replay(record, black_box(bytes)), Ok(None)))),
+            #[cfg(feature = "boundary")]
+            (
+                "record boundary",
+                Box::new(|| assert_eq!(boundary::record_arrival_into(lengths, black_box(bytes), &mut room.borrow_mut()), Ok(size))),
+            ),
+        ],
+    );
+    assert!(*room.borrow() == *record);
+    ratio(&all, "replay", "watch");
+    ratio(&all, "replay boundary", "watch boundary");
+    ratio(&all, "replay boundary", "replay");
+    ratio(&all, "record boundary", "record");
+}
+
 /// So many records of 20,480 kinds, or of one kind.
 fn kinds(records: usize, size: usize, many: bool) -> Product {
     let class = |k: usize| if many { 4 + (k * 5 / records) as u8 } else { 8 };
@@ -464,6 +499,11 @@ fn main() {
         // The main header a byte at a time.
         let p = large(12, 0, 20, 0, true);
         measure_watch(&p, 1, runs, 100);
+    }
+    if !left_out("replay") {
+        let p = even(64, false);
+        measure_replay(&p, 64 << 10, runs, 1);
+        measure_replay(&p, 1500, runs, 1);
     }
     if !left_out("lookup") {
         for (what, names) in &lookup::names() {

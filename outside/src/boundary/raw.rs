@@ -31,6 +31,12 @@ extern "C" {
     );
     fn wl_check_cut(original: *const u8, len: usize, cut: *const u8, cut_len: usize, answer: &mut [u64; 4]);
 
+    fn wl_replay(record: *const u8, len: usize, product: *const u8, product_len: usize, answer: &mut [u64; 4]);
+    #[rustfmt::skip]
+    fn wl_record_arrival(
+        lengths: *const u32, count: usize, product: *const u8, len: usize, room: *mut u8, room_len: usize, answer: &mut [u64; 4],
+    );
+
     fn wl_report_add(report: &mut [u64; 38], bytes: *const u8, len: usize, answer: &mut [u64; 4]);
     fn wl_report_merge(report: &mut [u64; 38], other: &[u64; 38], answer: &mut [u64; 4]);
 
@@ -239,6 +245,18 @@ pub fn join(first: &[u8], second: &[u8], room: &mut [u8]) -> [u64; 4] {
 pub fn check_cut(original: &[u8], cut: &[u8]) -> [u64; 4] {
     // SAFETY: as above.
     answered(|answer| unsafe { wl_check_cut(original.as_ptr(), original.len(), cut.as_ptr(), cut.len(), answer) })
+}
+
+pub fn replay(record: &[u8], product: &[u8]) -> [u64; 4] {
+    // SAFETY: as above.
+    answered(|answer| unsafe { wl_replay(record.as_ptr(), record.len(), product.as_ptr(), product.len(), answer) })
+}
+
+pub fn record_arrival(lengths: &[u32], product: &[u8], room: &mut [u8]) -> [u64; 4] {
+    // SAFETY: as above.
+    answered(|answer| unsafe {
+        wl_record_arrival(lengths.as_ptr(), lengths.len(), product.as_ptr(), product.len(), room.as_mut_ptr(), room.len(), answer)
+    })
 }
 
 pub fn report_add(report: &mut [u64; 38], bytes: &[u8]) -> [u64; 4] {

@@ -39,6 +39,11 @@ pub fn extent(bytes: &[u8]) -> Result<Option<u64>, Refusal> {
     }
 }
 
+/// The count of a finished product's records, where it is accepted.
+pub fn verdict(bytes: &[u8]) -> Result<u64, Refusal> {
+    form::one(raw::verdict(bytes))
+}
+
 /// The records' rows go to the first places of the list.
 pub fn finished(bytes: &[u8], rows: &mut [Row]) -> Finished {
     match form::one(raw::finished(bytes, rows)) {

@@ -141,6 +141,22 @@ fn measure(what: &str, make: impl Fn() -> Product, runs: usize, times: usize) {
     ratio(&all, "arrival boundary", "arrival fast");
 }
 
+/// The verdicts (request Fourteen), which keep no rows.
+fn measure_verdict(what: &str, p: &Product, runs: usize, times: usize) {
+    let (bytes, count) = (&p.bytes, p.starts.len());
+    println!("{what}: {} bytes, {count} records, {} pointers", bytes.len(), p.pointers.len());
+    let all = rounds(
+        runs,
+        times,
+        vec![
+            ("verdict fast", Box::new(|| assert_eq!(fast::verdict(black_box(bytes)), Ok(count as u64)))),
+            #[cfg(feature = "boundary")]
+            ("verdict boundary", Box::new(|| assert_eq!(boundary::verdict(black_box(bytes)), Ok(count as u64)))),
+        ],
+    );
+    ratio(&all, "verdict boundary", "verdict fast");
+}
+
 /// The VIADRs and MDRs of a product as a Level 0 product has them.
 fn raw_level(mut p: Product) -> Product {
     for (k, s) in p.starts.iter().enumerate() {
@@ -482,6 +498,16 @@ fn main() {
     // Not asked for, but the other path: targets that descend. The boundary may take long here, so it is left out unless SCATTERED is set.
     if !cfg!(feature = "boundary") || std::env::var_os("SCATTERED").is_some() {
         measure("scattered", || large(10, 20_000, 335, 20_000, false), runs, 1);
+    }
+    if !left_out("verdict") {
+        measure_verdict("verdict", &even(64, false), runs, 1);
+        measure_verdict("verdict, uneven", &even(64, true), runs, 1);
+        measure_verdict("verdict, long", &large(8, 300, 100 << 10, 0, true), runs, 100);
+        measure_verdict("verdict, pointers in order", &large(9, 20_000, 335, 20_000, true), runs, 1);
+        measure_verdict("verdict, pointers in no order", &large(10, 20_000, 335, 20_000, false), runs, 1);
+        // As many pointers and records as TOTAL_RECORDS can say.
+        measure_verdict("verdict, 499,999 pointers in no order", &large(16, 499_999, 20, 499_999, false), runs, 1);
+        measure_verdict("verdict, small", &large(11, 0, 20, 0, true), runs, 1000);
     }
     if !left_out("level0") {
         measure_level0("level0", even(64, false), runs);

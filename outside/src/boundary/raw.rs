@@ -5,6 +5,7 @@
 extern "C" {
     fn wl_arrival(bytes: *const u8, len: usize, answer: &mut [u64; 4]);
     fn wl_extent(bytes: *const u8, len: usize, answer: &mut [u64; 4]);
+    fn wl_verdict(bytes: *const u8, len: usize, answer: &mut [u64; 4]);
     fn wl_finished(bytes: *const u8, len: usize, rows: *mut [u32; 7], room: usize, answer: &mut [u64; 4]);
     fn wl_level0(bytes: *const u8, len: usize, rows: *mut [u32; 7], room: usize, answer: &mut [u64; 4]);
 
@@ -159,6 +160,11 @@ pub fn arrival(bytes: &[u8]) -> [u64; 4] {
 pub fn extent(bytes: &[u8]) -> [u64; 4] {
     // SAFETY: as above.
     answered(|answer| unsafe { wl_extent(bytes.as_ptr(), bytes.len(), answer) })
+}
+
+pub fn verdict(bytes: &[u8]) -> [u64; 4] {
+    // SAFETY: as above.
+    answered(|answer| unsafe { wl_verdict(bytes.as_ptr(), bytes.len(), answer) })
 }
 
 pub fn finished(bytes: &[u8], rows: &mut [[u32; 7]]) -> [u64; 4] {

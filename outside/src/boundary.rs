@@ -53,11 +53,8 @@ pub fn finished(bytes: &[u8], rows: &mut [Row]) -> Finished {
 }
 
 /// As `finished`, with 29 before 18 where a VIADR or MDR is not as a Level 0 product has it.
-pub fn level0(bytes: &[u8], rows: &mut [Row]) -> Finished {
-    match form::one(raw::level0(bytes, rows)) {
-        Ok(count) => Finished::Accepted { count },
-        Err(Refusal { number, place }) => Finished::Refused { number, place },
-    }
+pub fn level0(bytes: &[u8], rows: &mut [Row]) -> Result<u64, Refusal> {
+    form::one(raw::level0(bytes, rows))
 }
 
 // ---- the watch

@@ -2,7 +2,7 @@
 //! asked of each record as the pass of `fast` comes by; `plainly` asks it of the rows.
 use crate::fast::{self, Sink};
 use crate::values::Refusal;
-use crate::{plain, Finished, Row};
+use crate::{plain, Row};
 
 /// Where the first record against the profile starts.
 struct Profile {
@@ -32,24 +32,23 @@ fn fits(head: &[u8; 20]) -> bool {
 }
 
 /// The finished judge's refusals 1 to 17; 29 with the start of the first record against the profile; 18; or the rows.
-pub fn level0(bytes: &[u8], lent: &mut [Row]) -> Finished {
+pub fn level0(bytes: &[u8], lent: &mut [Row]) -> Result<u64, Refusal> {
     fast::listed(bytes, lent, Profile { against: None }, |profile| profile.against.map(|place| Refusal { number: 29, place }))
 }
 
-/// The same by the rows that the finished judge gives.
-pub fn plainly(bytes: &[u8], lent: &mut [Row]) -> Finished {
+/// The same by the rows that the row lister gives.
+pub fn plainly(bytes: &[u8], lent: &mut [Row]) -> Result<u64, Refusal> {
     let mut rows = vec![[0; 7]; bytes.len() / 20];
-    let answer = plain::finished(bytes, &mut rows);
-    let Finished::Accepted { count } = answer else { return answer };
+    let count = plain::rows(bytes, &mut rows)?;
     rows.truncate(count as usize);
     if let Some(row) = rows.iter().find(|row| is_against(row)) {
-        return Finished::Refused { number: 29, place: row[0] as u64 };
+        return Err(Refusal { number: 29, place: row[0] as u64 });
     }
     if lent.len() < rows.len() {
-        return Finished::Refused { number: 18, place: count };
+        return Err(Refusal { number: 18, place: count });
     }
     lent[..rows.len()].copy_from_slice(&rows);
-    answer
+    Ok(count)
 }
 
 const VIADR: u32 = 7;

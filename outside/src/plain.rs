@@ -343,23 +343,27 @@ pub fn finished(bytes: &[u8], lent: &mut [Row]) -> Finished {
     Finished::Accepted { count: found.starts.len() as u64 }
 }
 
-/// The verdict (request Fourteen): the count of an accepted product, or 1 to 17.
-pub fn verdict(bytes: &[u8]) -> Result<u64, Refusal> {
+/// What an accepted product tells, or 1 to 17.
+fn accepted(bytes: &[u8]) -> Result<Findings, Refusal> {
     let found = findings(bytes);
     match least(&found, bytes.len()) {
         Some(f) => Err(Refusal { number: f.number, place: f.place }),
-        None if found.size == Some(bytes.len() as u64) => Ok(found.count),
+        None if found.size == Some(bytes.len() as u64) => Ok(found),
         None => Err(Refusal { number: 17, place: bytes.len() as u64 }),
     }
 }
 
+/// The verdict (request Fourteen): the count of an accepted product, or 1 to 17.
+pub fn verdict(bytes: &[u8]) -> Result<u64, Refusal> {
+    Ok(accepted(bytes)?.count)
+}
+
 /// The row lister (request Fourteen): it judges for itself and hands refusals on; then 18; then the rows.
 pub fn rows(bytes: &[u8], lent: &mut [Row]) -> Result<u64, Refusal> {
-    let count = verdict(bytes)?;
-    if (lent.len() as u64) < count {
-        return Err(Refusal { number: 18, place: count });
+    let found = accepted(bytes)?;
+    if (lent.len() as u64) < found.count {
+        return Err(Refusal { number: 18, place: found.count });
     }
-    let starts = findings(bytes).starts;
-    lent.iter_mut().zip(rows_at(bytes, &starts)).for_each(|(place, row)| *place = row);
-    Ok(count)
+    lent.iter_mut().zip(rows_at(bytes, &found.starts)).for_each(|(place, row)| *place = row);
+    Ok(found.count)
 }

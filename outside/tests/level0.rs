@@ -3,24 +3,17 @@
 use outside::generate::{hurt, level0_kinds, prefix, product, Rng};
 use outside::seen::{cases, Seen};
 use outside::values::Refusal;
-use outside::{level0, plain, vectors, Finished, Row};
+use outside::{level0, plain, vectors, Row};
 use std::collections::BTreeMap;
 
 const KEPT: Row = [0xdead_beef; 7];
-
-fn result(answer: Finished) -> Result<u64, Refusal> {
-    match answer {
-        Finished::Refused { number, place } => Err(Refusal { number, place }),
-        Finished::Accepted { count } => Ok(count),
-    }
-}
 
 /// One answer of all and one list of rows.
 #[track_caller]
 fn judged(bytes: &[u8], room: usize) -> (Result<u64, Refusal>, Vec<Row>) {
     let mut rows = vec![KEPT; room + 2];
     let answer = level0::plainly(bytes, &mut rows[1..=room]);
-    let mut others: Vec<fn(&[u8], &mut [Row]) -> Finished> = vec![level0::level0];
+    let mut others: Vec<fn(&[u8], &mut [Row]) -> Result<u64, Refusal>> = vec![level0::level0];
     #[cfg(feature = "boundary")]
     others.push(outside::boundary::level0);
     let before = bytes.to_vec();
@@ -31,7 +24,7 @@ fn judged(bytes: &[u8], room: usize) -> (Result<u64, Refusal>, Vec<Row>) {
     }
     assert_eq!(bytes, before);
     assert_eq!((rows[0], rows[room + 1]), (KEPT, KEPT));
-    (result(answer), rows[1..=room].to_vec())
+    (answer, rows[1..=room].to_vec())
 }
 
 fn all() -> Vec<u64> {
@@ -94,7 +87,7 @@ fn generated() {
             assert!(rows[written..].iter().all(|row| *row == KEPT));
             dummies += rows[..written].iter().filter(|row| (row[2], row[3]) == (8, 13)).count();
             let mut general = vec![KEPT; room];
-            let verdict = result(plain::finished(bytes, &mut general));
+            let verdict = plain::rows(bytes, &mut general);
             match answer {
                 // 29 stands after 17 and before 18.
                 Err(Refusal { number: 29, place }) => {

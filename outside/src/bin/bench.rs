@@ -183,11 +183,11 @@ fn measure_level0(what: &str, p: Product, runs: usize) {
         1,
         vec![
             ("finished fast", Box::new(|| assert_eq!(fast::finished(black_box(bytes), &mut rows.borrow_mut()), accepted))),
-            ("level0", Box::new(|| assert_eq!(level0::level0(black_box(bytes), &mut rows.borrow_mut()), accepted))),
+            ("level0", Box::new(|| assert_eq!(level0::level0(black_box(bytes), &mut rows.borrow_mut()), Ok(count as u64)))),
             #[cfg(feature = "boundary")]
             ("finished boundary", Box::new(|| assert_eq!(boundary::finished(black_box(bytes), &mut rows.borrow_mut()), accepted))),
             #[cfg(feature = "boundary")]
-            ("level0 boundary", Box::new(|| assert_eq!(boundary::level0(black_box(bytes), &mut rows.borrow_mut()), accepted))),
+            ("level0 boundary", Box::new(|| assert_eq!(boundary::level0(black_box(bytes), &mut rows.borrow_mut()), Ok(count as u64)))),
         ],
     );
     ratio(&all, "level0", "finished fast");

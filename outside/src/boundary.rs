@@ -5,7 +5,7 @@ pub mod raw;
 use crate::month::Report;
 use crate::replay::record_size;
 use crate::values::{Date, Field, GroundPoint, Header, Moment, Reading, Record, Refusal, Scaled, Time, UthBlock, Which};
-use crate::{Arrival, Finished, Row};
+use crate::{Arrival, Row};
 use std::cmp::Ordering;
 use std::io;
 
@@ -45,14 +45,11 @@ pub fn verdict(bytes: &[u8]) -> Result<u64, Refusal> {
 }
 
 /// The records' rows go to the first places of the list.
-pub fn finished(bytes: &[u8], rows: &mut [Row]) -> Finished {
-    match form::one(raw::finished(bytes, rows)) {
-        Ok(count) => Finished::Accepted { count },
-        Err(Refusal { number, place }) => Finished::Refused { number, place },
-    }
+pub fn rows(bytes: &[u8], rows: &mut [Row]) -> Result<u64, Refusal> {
+    form::one(raw::rows(bytes, rows))
 }
 
-/// As `finished`, with 29 before 18 where a VIADR or MDR is not as a Level 0 product has it.
+/// As `rows`, with 29 before 18 where a VIADR or MDR is not as a Level 0 product has it.
 pub fn level0(bytes: &[u8], rows: &mut [Row]) -> Result<u64, Refusal> {
     form::one(raw::level0(bytes, rows))
 }

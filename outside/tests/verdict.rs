@@ -34,7 +34,7 @@ fn rows(bytes: &[u8], room: usize) -> (Answer, Vec<Row>) {
     let answer = plain::rows(bytes, &mut rows[1..=room]);
     let mut others: Vec<fn(&[u8], &mut [Row]) -> Answer> = vec![fast::rows];
     #[cfg(feature = "boundary")]
-    others.push(|bytes, lent| result(outside::boundary::finished(bytes, lent)));
+    others.push(outside::boundary::rows);
     for other in others.drain(..) {
         let mut lent = vec![KEPT; room + 2];
         assert_eq!(other(bytes, &mut lent[1..=room]), answer, "at {} room {room}", bytes.len());

@@ -1,10 +1,10 @@
-//! Times of the judges on large products, of the watch, of the cut and of the join: medians of runs taken in turn. The finished judges fill the same
-//! rows.
+//! Times of the judges on large products, of the watch, of the cut, of the join and of what else reads products: medians of runs taken in turn. The row
+//! listers fill the same rows.
 use outside::generate::{build, name_targets, set_number, Product, Rng, Shape, GROUPS};
 use outside::leaves::read_header;
 use outside::values::{Refusal, Time};
 use outside::watch::Watch;
-use outside::{check, cut, fast, join, level0, lookup, month, replay, uth, Arrival, Finished};
+use outside::{check, cut, fast, join, level0, lookup, month, replay, uth, Arrival};
 use std::cell::RefCell;
 use std::hint::black_box;
 use std::time::Instant;
@@ -121,23 +121,23 @@ fn measure(what: &str, make: impl Fn() -> Product, runs: usize, times: usize) {
     let bytes = &p.bytes;
     let count = p.starts.len();
     let rows = &RefCell::new(vec![[0; 7]; count]);
-    let accepted = Finished::Accepted { count: count as u64 };
+    let accepted = Ok(count as u64);
     let waiting = Arrival::Waiting { count: count as u64, end: bytes.len() as u64 };
     println!("{what}: {} bytes, {count} records, {} pointers", bytes.len(), p.pointers.len());
     let all = rounds(
         runs,
         times,
         vec![
-            ("finished fast", Box::new(|| assert_eq!(fast::finished(black_box(bytes), &mut rows.borrow_mut()), accepted))),
+            ("rows fast", Box::new(|| assert_eq!(fast::rows(black_box(bytes), &mut rows.borrow_mut()), accepted))),
             ("arrival fast", Box::new(|| assert_eq!(fast::arrival(black_box(bytes)), waiting))),
             #[cfg(feature = "boundary")]
-            ("finished boundary", Box::new(|| assert_eq!(boundary::finished(black_box(bytes), &mut rows.borrow_mut()), accepted))),
+            ("rows boundary", Box::new(|| assert_eq!(boundary::rows(black_box(bytes), &mut rows.borrow_mut()), accepted))),
             #[cfg(feature = "boundary")]
             ("arrival boundary", Box::new(|| assert_eq!(boundary::arrival(black_box(bytes)), waiting))),
         ],
     );
     assert!(rows.borrow().iter().zip(&p.starts).all(|(a, b)| a[0] as usize == *b));
-    ratio(&all, "finished boundary", "finished fast");
+    ratio(&all, "rows boundary", "rows fast");
     ratio(&all, "arrival boundary", "arrival fast");
 }
 
@@ -171,27 +171,27 @@ fn raw_level(mut p: Product) -> Product {
     p
 }
 
-/// The profile judges beside the finished ones, which fill the same rows.
+/// The profile judges beside the row listers, which fill the same rows.
 fn measure_level0(what: &str, p: Product, runs: usize) {
     let p = &raw_level(p);
     let (bytes, count) = (&p.bytes, p.starts.len());
     let rows = &RefCell::new(vec![[0; 7]; count]);
-    let accepted = Finished::Accepted { count: count as u64 };
+    let accepted = Ok(count as u64);
     println!("{what}: {} bytes, {count} records, {} pointers", bytes.len(), p.pointers.len());
     let all = rounds(
         runs,
         1,
         vec![
-            ("finished fast", Box::new(|| assert_eq!(fast::finished(black_box(bytes), &mut rows.borrow_mut()), accepted))),
-            ("level0", Box::new(|| assert_eq!(level0::level0(black_box(bytes), &mut rows.borrow_mut()), Ok(count as u64)))),
+            ("rows fast", Box::new(|| assert_eq!(fast::rows(black_box(bytes), &mut rows.borrow_mut()), accepted))),
+            ("level0", Box::new(|| assert_eq!(level0::level0(black_box(bytes), &mut rows.borrow_mut()), accepted))),
             #[cfg(feature = "boundary")]
-            ("finished boundary", Box::new(|| assert_eq!(boundary::finished(black_box(bytes), &mut rows.borrow_mut()), accepted))),
+            ("rows boundary", Box::new(|| assert_eq!(boundary::rows(black_box(bytes), &mut rows.borrow_mut()), accepted))),
             #[cfg(feature = "boundary")]
-            ("level0 boundary", Box::new(|| assert_eq!(boundary::level0(black_box(bytes), &mut rows.borrow_mut()), Ok(count as u64)))),
+            ("level0 boundary", Box::new(|| assert_eq!(boundary::level0(black_box(bytes), &mut rows.borrow_mut()), accepted))),
         ],
     );
-    ratio(&all, "level0", "finished fast");
-    ratio(&all, "level0 boundary", "finished boundary");
+    ratio(&all, "level0", "rows fast");
+    ratio(&all, "level0 boundary", "rows boundary");
     ratio(&all, "level0 boundary", "level0");
 }
 
@@ -495,10 +495,8 @@ fn main() {
     measure("small", || large(11, 1, 21, 0, true), runs, 1000);
     measure("one kind", || kinds(100_000, 335, false), runs, 1);
     measure("20,480 kinds", || kinds(100_000, 335, true), runs, 1);
-    // Not asked for, but the other path: targets that descend. The boundary may take long here, so it is left out unless SCATTERED is set.
-    if !cfg!(feature = "boundary") || std::env::var_os("SCATTERED").is_some() {
-        measure("scattered", || large(10, 20_000, 335, 20_000, false), runs, 1);
-    }
+    // The other path: targets that descend.
+    measure("scattered", || large(10, 20_000, 335, 20_000, false), runs, 1);
     if !left_out("verdict") {
         measure_verdict("verdict", &even(64, false), runs, 1);
         measure_verdict("verdict, uneven", &even(64, true), runs, 1);

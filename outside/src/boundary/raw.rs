@@ -6,7 +6,7 @@ extern "C" {
     fn wl_arrival(bytes: *const u8, len: usize, answer: &mut [u64; 4]);
     fn wl_extent(bytes: *const u8, len: usize, answer: &mut [u64; 4]);
     fn wl_verdict(bytes: *const u8, len: usize, answer: &mut [u64; 4]);
-    fn wl_finished(bytes: *const u8, len: usize, rows: *mut [u32; 7], room: usize, answer: &mut [u64; 4]);
+    fn wl_rows(bytes: *const u8, len: usize, rows: *mut [u32; 7], room: usize, answer: &mut [u64; 4]);
     fn wl_level0(bytes: *const u8, len: usize, rows: *mut [u32; 7], room: usize, answer: &mut [u64; 4]);
 
     fn wl_watch_new(watch: &mut Watch);
@@ -167,9 +167,9 @@ pub fn verdict(bytes: &[u8]) -> [u64; 4] {
     answered(|answer| unsafe { wl_verdict(bytes.as_ptr(), bytes.len(), answer) })
 }
 
-pub fn finished(bytes: &[u8], rows: &mut [[u32; 7]]) -> [u64; 4] {
+pub fn rows(bytes: &[u8], rows: &mut [[u32; 7]]) -> [u64; 4] {
     // SAFETY: as above.
-    answered(|answer| unsafe { wl_finished(bytes.as_ptr(), bytes.len(), rows.as_mut_ptr(), rows.len(), answer) })
+    answered(|answer| unsafe { wl_rows(bytes.as_ptr(), bytes.len(), rows.as_mut_ptr(), rows.len(), answer) })
 }
 
 pub fn level0(bytes: &[u8], rows: &mut [[u32; 7]]) -> [u64; 4] {

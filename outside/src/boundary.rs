@@ -2,8 +2,10 @@
 pub mod form;
 pub mod raw;
 
+use crate::month::Report;
+use crate::replay::record_size;
 use crate::values::{Date, Field, GroundPoint, Header, Moment, Reading, Record, Refusal, Scaled, Time, UthBlock, Which};
-use crate::{Arrival, Finished, Row};
+use crate::{Arrival, Row};
 use std::cmp::Ordering;
 use std::io;
 
@@ -37,12 +39,19 @@ pub fn extent(bytes: &[u8]) -> Result<Option<u64>, Refusal> {
     }
 }
 
+/// The count of a finished product's records, where it is accepted.
+pub fn verdict(bytes: &[u8]) -> Result<u64, Refusal> {
+    form::one(raw::verdict(bytes))
+}
+
 /// The records' rows go to the first places of the list.
-pub fn finished(bytes: &[u8], rows: &mut [Row]) -> Finished {
-    match form::one(raw::finished(bytes, rows)) {
-        Ok(count) => Finished::Accepted { count },
-        Err(Refusal { number, place }) => Finished::Refused { number, place },
-    }
+pub fn rows(bytes: &[u8], rows: &mut [Row]) -> Result<u64, Refusal> {
+    form::one(raw::rows(bytes, rows))
+}
+
+/// As `rows`, with 29 before 18 where a VIADR or MDR is not as a Level 0 product has it.
+pub fn level0(bytes: &[u8], rows: &mut [Row]) -> Result<u64, Refusal> {
+    form::one(raw::level0(bytes, rows))
 }
 
 // ---- the watch
@@ -191,6 +200,49 @@ pub fn check_cut(original: &[u8], cut: &[u8]) -> Result<Option<u64>, Refusal> {
         [_, _, 1, 0] => Ok(None),
         [_, _, 0, place] => Ok(Some(place)),
         other => panic!("wl_check_cut answered {other:?}"),
+    }
+}
+
+// ---- records of arrivals
+
+/// The first part, counted from 0, whose answer is not as the record has it; `None` where all are.
+pub fn replay(record: &[u8], product: &[u8]) -> Result<Option<u64>, Refusal> {
+    match form::said(raw::replay(record, product))? {
+        [_, _, 0, 0] => Ok(None),
+        [_, _, 1, part] => Ok(Some(part)),
+        other => panic!("wl_replay answered {other:?}"),
+    }
+}
+
+/// The record of a product that comes in parts of these lengths, at the start of the room, as so many bytes.
+pub fn record_arrival_into(lengths: &[u32], product: &[u8], room: &mut [u8]) -> Result<usize, Refusal> {
+    form::written(raw::record_arrival(lengths, product, room), room.len())
+}
+
+/// The record of a product that comes in parts of these lengths.
+pub fn record_arrival(lengths: &[u32], product: &[u8]) -> Result<Vec<u8>, Refusal> {
+    let mut room = vec![0; record_size(lengths.len())];
+    let written = record_arrival_into(lengths, product, &mut room)?;
+    room.truncate(written);
+    Ok(room)
+}
+
+// ---- the month report
+
+/// One product more in a report: its own refusal, which is counted, or `None` where it is accepted; or 36, the report kept.
+pub fn report_add(report: &mut Report, bytes: &[u8]) -> Result<Option<Refusal>, Refusal> {
+    match form::said(raw::report_add(report, bytes))? {
+        [_, _, 0, 0] => Ok(None),
+        [_, _, number @ 1..=17, place] => Ok(Some(Refusal { number, place })),
+        other => panic!("wl_report_add answered {other:?}"),
+    }
+}
+
+/// The products of another report too; or 36, the report kept.
+pub fn report_merge(report: &mut Report, other: &Report) -> Result<(), Refusal> {
+    match form::said(raw::report_merge(report, other))? {
+        [_, _, 0, 0] => Ok(()),
+        other => panic!("wl_report_merge answered {other:?}"),
     }
 }
 

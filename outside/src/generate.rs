@@ -285,8 +285,59 @@ pub fn few_kinds(rng: &mut Rng, p: &mut Product) {
     name_targets(p);
 }
 
+/// VIADRs and MDRs as a Level 0 product has them (request Nine), and dummies among the MDRs. Some of them are then beside what it has, in one number.
+pub fn level0_kinds(rng: &mut Rng, p: &mut Product) {
+    for s in &p.starts[1..] {
+        let kind = match p.bytes[*s] {
+            7 => [0, 0, rng.pick(&[1, 2])],
+            8 if rng.one_in(6) => [13, rng.below(256) as u8, rng.below(4) as u8],
+            8 => [0, rng.below(5) as u8, 1],
+            _ => continue,
+        };
+        p.bytes[s + 1..s + 4].copy_from_slice(&kind);
+    }
+    for _ in 0..rng.pick(&[0, 0, 1, 1, 2, 3]) {
+        let s = rng.pick(&p.starts);
+        match rng.below(3) {
+            _ if s == 0 => {}
+            0 => p.bytes[s + 1] = rng.pick(&GROUPS),
+            1 => p.bytes[s + 2] = rng.pick(&[0, 1, 4, 5, 6, 13, 127, 128, 255]),
+            _ => p.bytes[s + 3] = rng.pick(&[0, 1, 2, 3, 129, 255]),
+        }
+    }
+    name_targets(p);
+}
+
+/// Times of the MDRs about the end of one day, most often of one with a leap second, so that stops and starts that follow each other are the same, a
+/// little apart, or on two sides of it (request Twelve).
+pub fn times_that_meet(rng: &mut Rng, p: &mut Product) {
+    let day = if rng.one_in(8) { 1 + rng.below(65_534) as u16 } else { rng.pick(&leap::DAYS) };
+    let time = |rng: &mut Rng| {
+        let day = day + rng.pick(&[0, 1, 1, 1, 2, 2]) - 1;
+        let last = leap::last_milli(day);
+        let any = rng.below(86_400_000) as u32;
+        let milli = rng.pick(&[0, 0, 1, 999, 1000, 86_399_999, 86_400_000, last - 1, last, any]);
+        Time { day, milli: milli.min(last) }
+    };
+    let mut before = None;
+    for s in &p.starts {
+        if p.bytes[*s] != 8 {
+            continue;
+        }
+        let mut ends = [before.filter(|_| rng.one_in(4)).unwrap_or_else(|| time(rng)), time(rng)];
+        ends.sort_by_key(|t| (t.day, t.milli));
+        before = Some(ends[1]);
+        for (at, end) in [(s + 8, ends[0]), (s + 14, ends[1])] {
+            put_cds(&mut p.bytes, at, end);
+            if rng.one_in(10) {
+                p.bytes[at..at + 6].fill(0xff);
+            }
+        }
+    }
+}
+
 /// Each pointer names the class, group and subclass of the record at its target.
-fn name_targets(p: &mut Product) {
+pub fn name_targets(p: &mut Product) {
     for s in &p.pointers {
         let target = u32_at(&p.bytes, s + 23) as usize;
         p.bytes.copy_within(target..target + 3, s + 20);

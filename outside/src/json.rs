@@ -46,6 +46,14 @@ impl Json {
         self.integer().unwrap()
     }
 
+    /// A number, bare or as a text, that a u64 holds.
+    pub fn unsigned(&self) -> u64 {
+        match self {
+            Json::Word(digits) | Json::Text(digits) => digits.parse().unwrap(),
+            _ => panic!("no number: {self}"),
+        }
+    }
+
     /// The value unless it is null.
     pub fn some(&self) -> Option<&Json> {
         (*self != Json::Word("null".into())).then_some(self)

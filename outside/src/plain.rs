@@ -1,6 +1,6 @@
 //! The judges straight from 01's table: every fault there is, then the least of those shown.
 use crate::lines::{Kind, LAST_TOTAL_LINE, LINES, MAIN_SIZE, RECORDS_LINE, SIZE_LINE, STARTS};
-use crate::values::Date;
+use crate::values::{Date, Refusal};
 use crate::{leap, Arrival, Finished, Row};
 use std::collections::HashMap;
 
@@ -312,7 +312,7 @@ pub fn watched(bytes: &[u8]) -> Arrival {
 }
 
 /// "start, size, class, group, subclass, version, and the row's ordinal among rows of its triple, from 0"
-fn rows(bytes: &[u8], starts: &[u64]) -> Vec<Row> {
+fn rows_at(bytes: &[u8], starts: &[u64]) -> Vec<Row> {
     let mut seen = HashMap::<[u8; 3], u32>::new();
     let mut row = |start: u64| {
         let head = &bytes[start as usize..];
@@ -339,6 +339,31 @@ pub fn finished(bytes: &[u8], lent: &mut [Row]) -> Finished {
     if lent.len() < found.starts.len() {
         return Finished::Refused { number: 18, place: found.starts.len() as u64 };
     }
-    lent[..found.starts.len()].copy_from_slice(&rows(bytes, &found.starts));
+    lent[..found.starts.len()].copy_from_slice(&rows_at(bytes, &found.starts));
     Finished::Accepted { count: found.starts.len() as u64 }
+}
+
+/// What an accepted product tells, or 1 to 17.
+fn accepted(bytes: &[u8]) -> Result<Findings, Refusal> {
+    let found = findings(bytes);
+    match least(&found, bytes.len()) {
+        Some(f) => Err(Refusal { number: f.number, place: f.place }),
+        None if found.size == Some(bytes.len() as u64) => Ok(found),
+        None => Err(Refusal { number: 17, place: bytes.len() as u64 }),
+    }
+}
+
+/// The verdict (request Fourteen): the count of an accepted product, or 1 to 17.
+pub fn verdict(bytes: &[u8]) -> Result<u64, Refusal> {
+    Ok(accepted(bytes)?.count)
+}
+
+/// The row lister (request Fourteen): it judges for itself and hands refusals on; then 18; then the rows.
+pub fn rows(bytes: &[u8], lent: &mut [Row]) -> Result<u64, Refusal> {
+    let found = accepted(bytes)?;
+    if (lent.len() as u64) < found.count {
+        return Err(Refusal { number: 18, place: found.count });
+    }
+    lent.iter_mut().zip(rows_at(bytes, &found.starts)).for_each(|(place, row)| *place = row);
+    Ok(found.count)
 }

@@ -1,7 +1,7 @@
 //! The repository's vectors, unpacked: VECTORS names their folder (tools/outside unpacks them to target/vectors).
 use crate::json::Json;
 use crate::values::Refusal;
-use crate::{Arrival, Finished};
+use crate::{Arrival, Finished, Row};
 use std::path::PathBuf;
 
 pub fn file(name: &str) -> PathBuf {
@@ -75,6 +75,41 @@ fn finished(answer: &[Json]) -> Finished {
         "accepted" => Finished::Accepted { count: answer[1].number() as u64 },
         other => panic!("{other}"),
     }
+}
+
+/// A case of request Six or Nine: a product, its rows (none where it is refused), and rooms for them with the count or the refusal.
+pub struct Listed {
+    pub name: String,
+    pub bytes: Vec<u8>,
+    pub answer: Result<Vec<Row>, Refusal>,
+    pub rooms: Vec<(usize, Result<u64, Refusal>)>,
+}
+
+pub fn listed(name: &str, count: usize) -> Vec<Listed> {
+    let products = request_products();
+    let case = |case: &Json| Listed {
+        name: case.get("name").unwrap().to_string(),
+        bytes: products[case.get("product").unwrap().number() as usize].clone(),
+        answer: rows_or(case.get("answer").unwrap(), |rows| rows.list().iter().map(row).collect()),
+        rooms: case.get("rooms").unwrap().list().iter().map(room).collect(),
+    };
+    cases(name, count).iter().map(case).collect()
+}
+
+fn rows_or<T>(answer: &Json, rows: impl FnOnce(&Json) -> T) -> Result<T, Refusal> {
+    match (answer.list()[0].text(), &answer.list()[1..]) {
+        ("rows", [value]) => Ok(rows(value)),
+        ("refused", [number, place]) => Err(Refusal { number: number.number() as u64, place: place.number() as u64 }),
+        other => panic!("{other:?}"),
+    }
+}
+
+fn row(row: &Json) -> Row {
+    row.list().iter().map(|n| n.number() as u32).collect::<Vec<_>>().try_into().unwrap()
+}
+
+fn room(room: &Json) -> (usize, Result<u64, Refusal>) {
+    (room.list()[0].number() as usize, rows_or(&room.list()[1], |count| count.number() as u64))
 }
 
 /// Pieces of bytes, each so many times.

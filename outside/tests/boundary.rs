@@ -15,20 +15,16 @@ fn note_arrival(seen: &mut Seen, answer: Arrival) {
     seen.note(&answer, |count| if *count == 0 { "none whole" } else { "some whole" });
 }
 
-fn note_finished(seen: &mut Seen, answer: Finished) {
-    let answer = match answer {
-        Finished::Refused { number, place } => Err(Refusal { number, place }),
-        Finished::Accepted { count } => Ok(count),
-    };
+fn note_rows(seen: &mut Seen, answer: Result<u64, Refusal>) {
     seen.note(&answer, |_| "accepted");
 }
 
 /// Lends both a list of so many places, with one more on each side: one answer, the same rows.
 #[track_caller]
-fn same_finished(bytes: &[u8], room: usize) -> Finished {
+fn same_rows(bytes: &[u8], room: usize) -> Result<u64, Refusal> {
     let (mut i, mut j) = (vec![KEPT; room + 2], vec![KEPT; room + 2]);
-    let ours = plain::finished(bytes, &mut i[1..=room]);
-    assert_eq!(ours, boundary::finished(bytes, &mut j[1..=room]), "wl_finished at {} room {room}", bytes.len());
+    let ours = plain::rows(bytes, &mut i[1..=room]);
+    assert_eq!(ours, boundary::rows(bytes, &mut j[1..=room]), "wl_rows at {} room {room}", bytes.len());
     assert_eq!(i, j, "rows at {} room {room}", bytes.len());
     ours
 }
@@ -36,7 +32,7 @@ fn same_finished(bytes: &[u8], room: usize) -> Finished {
 #[test]
 fn generated() {
     let mut rng = Rng(1);
-    let (mut arrivals, mut finishes) = (Seen::of("wl_arrival"), Seen::of("wl_finished"));
+    let (mut arrivals, mut listers) = (Seen::of("wl_arrival"), Seen::of("wl_rows"));
     for n in 0..cases(200_000) {
         let (p, made) = product(&mut rng, n);
         let bytes = &p.bytes[..prefix(&mut rng, &p)];
@@ -47,13 +43,13 @@ fn generated() {
         note_arrival(&mut arrivals, ours);
         let count = p.starts.len();
         for room in [count - 1, count, count + 1, 0] {
-            note_finished(&mut finishes, same_finished(bytes, room));
+            note_rows(&mut listers, same_rows(bytes, room));
         }
         assert_eq!(bytes, before);
     }
     let refusals: Vec<u64> = (1..=18).collect();
     arrivals.complete(&["none whole", "some whole"], &refusals[..16]);
-    finishes.complete(&["accepted"], &refusals);
+    listers.complete(&["accepted"], &refusals);
 }
 
 #[test]
@@ -63,7 +59,7 @@ fn every_vector() {
             assert_eq!(fast::arrival(&bytes[..l]), boundary::arrival(&bytes[..l]), "product {n} at {l}");
         }
         for room in [0, 1, 2, bytes.len() / 20 + 1] {
-            same_finished(bytes, room);
+            let _ = same_rows(bytes, room);
         }
     }
 }
@@ -74,6 +70,10 @@ fn two() {
         for l in 0..=case.bytes.len() {
             assert_eq!(boundary::arrival(&case.bytes[..l]), case.arrival(l), "{} at {l}", case.name);
         }
-        assert_eq!(same_finished(&case.bytes, case.bytes.len() / 20), case.finished, "{}", case.name);
+        let right = match case.finished {
+            Finished::Refused { number, place } => Err(Refusal { number, place }),
+            Finished::Accepted { count } => Ok(count),
+        };
+        assert_eq!(same_rows(&case.bytes, case.bytes.len() / 20), right, "{}", case.name);
     }
 }

@@ -41,7 +41,7 @@ fn same_at_boundary(bytes: &[u8], window: [Option<Time>; 2], right: &[u8], answe
     if let (Ok(n), true) = (answer, bytes.len() < 10_000) {
         assert_eq!(boundary::cut(bytes, window[0], window[1]).as_deref(), Ok(&right[..n]));
         let [mut rows, mut plainly] = [(); 2].map(|()| vec![[0; 7]; n / 20]);
-        assert_eq!(boundary::finished(&right[..n], &mut rows), plain::finished(&right[..n], &mut plainly));
+        assert_eq!(boundary::rows(&right[..n], &mut rows), plain::rows(&right[..n], &mut plainly));
         assert_eq!(rows, plainly);
         let (mut text, mut listed) = ([0; 16_384], [0; 16_384]);
         assert_eq!(boundary::listing(&right[..n], &mut text), leaves::listing(&right[..n], &mut listed));

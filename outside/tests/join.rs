@@ -39,7 +39,7 @@ fn same_at_boundary(first: &[u8], second: &[u8], right: &[u8], answer: Written) 
     if let (Ok(n), true) = (answer, right.len() < 20_000) {
         assert_eq!(boundary::join(first, second).as_deref(), Ok(&right[..n]));
         let [mut rows, mut plainly] = [(); 2].map(|()| vec![[0; 7]; n / 20]);
-        assert_eq!(boundary::finished(&right[..n], &mut rows), plain::finished(&right[..n], &mut plainly));
+        assert_eq!(boundary::rows(&right[..n], &mut rows), plain::rows(&right[..n], &mut plainly));
         assert_eq!(rows, plainly);
     }
 }

@@ -66,7 +66,7 @@ macro_rules! judged {
             }
             for room in asked.rows {
                 let mut rows = vec![[7; 7]; room];
-                all.push(format!("{:?}", judge::finished(bytes, &mut rows)));
+                all.push(format!("{:?}", judge::rows(bytes, &mut rows)));
                 all.push(format!("{rows:?}"));
             }
             all

@@ -4,18 +4,18 @@ use outside::generate::{build, damage, few_kinds, prefix, shape, Rng};
 use outside::json::Json;
 use outside::seen::{cases, Seen};
 use outside::values::Refusal;
-use outside::{fast, plain, vectors, Finished, Row};
+use outside::{fast, plain, vectors, Row};
 
 const KEPT: Row = [0xdead_beef; 7];
 
 /// One answer and one list of rows, the places beside those that are lent with them.
 #[track_caller]
-fn judged(bytes: &[u8], room: usize) -> (Finished, Vec<Row>) {
+fn judged(bytes: &[u8], room: usize) -> (Result<u64, Refusal>, Vec<Row>) {
     let mut rows = vec![KEPT; room + 2];
-    let answer = plain::finished(bytes, &mut rows[1..=room]);
-    let mut others: Vec<fn(&[u8], &mut [Row]) -> Finished> = vec![fast::finished];
+    let answer = plain::rows(bytes, &mut rows[1..=room]);
+    let mut others: Vec<fn(&[u8], &mut [Row]) -> Result<u64, Refusal>> = vec![fast::rows];
     #[cfg(feature = "boundary")]
-    others.push(outside::boundary::finished);
+    others.push(outside::boundary::rows);
     let before = bytes.to_vec();
     for other in others.drain(..) {
         let mut lent = vec![KEPT; room + 2];
@@ -44,12 +44,8 @@ fn generated() {
         let count = p.starts.len();
         for room in [count - 1, count, count + 1 + rng.below(4), 0] {
             let (answer, rows) = judged(bytes, room);
-            let answer = match answer {
-                Finished::Refused { number, place } => Err(Refusal { number, place }),
-                Finished::Accepted { count } => Ok(count as usize),
-            };
             seen.note(&answer, |_| "accepted");
-            let written = answer.unwrap_or(0);
+            let written = answer.unwrap_or(0) as usize;
             assert!(rows[written..].iter().all(|row| *row == KEPT));
             kept += (written > 0 && written < room) as u32;
             for row in &rows[..written] {
@@ -93,10 +89,6 @@ fn every_vector() {
         for room in case.get("rooms").unwrap().list() {
             let (lent, right) = (room.list()[0].number() as usize, said(room.list()[1].list()));
             let (answer, rows) = judged(bytes, lent);
-            let answer = match answer {
-                Finished::Refused { number, place } => Err(Refusal { number, place }),
-                Finished::Accepted { count } => Ok(count),
-            };
             assert_eq!(answer, right, "{name} room {lent}");
             let written = if answer.is_ok() { due.len() } else { 0 };
             assert_eq!(rows[..written], due[..written], "{name} room {lent}");

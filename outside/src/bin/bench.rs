@@ -1,10 +1,10 @@
-//! Times of the judges on large products, of the watch, of the cut and of the join: medians of runs taken in turn. The finished judges fill the same
-//! rows.
-use outside::generate::{build, set_number, Product, Rng, Shape, GROUPS};
+//! Times of the judges on large products, of the watch, of the cut, of the join and of what else reads products: medians of runs taken in turn. The row
+//! listers fill the same rows.
+use outside::generate::{build, name_targets, set_number, Product, Rng, Shape, GROUPS};
 use outside::leaves::read_header;
-use outside::values::Time;
+use outside::values::{Refusal, Time};
 use outside::watch::Watch;
-use outside::{check, cut, fast, join, lookup, uth, Arrival, Finished};
+use outside::{check, cut, fast, join, level0, lookup, month, replay, uth, Arrival};
 use std::cell::RefCell;
 use std::hint::black_box;
 use std::time::Instant;
@@ -121,24 +121,103 @@ fn measure(what: &str, make: impl Fn() -> Product, runs: usize, times: usize) {
     let bytes = &p.bytes;
     let count = p.starts.len();
     let rows = &RefCell::new(vec![[0; 7]; count]);
-    let accepted = Finished::Accepted { count: count as u64 };
+    let accepted = Ok(count as u64);
     let waiting = Arrival::Waiting { count: count as u64, end: bytes.len() as u64 };
     println!("{what}: {} bytes, {count} records, {} pointers", bytes.len(), p.pointers.len());
     let all = rounds(
         runs,
         times,
         vec![
-            ("finished fast", Box::new(|| assert_eq!(fast::finished(black_box(bytes), &mut rows.borrow_mut()), accepted))),
+            ("rows fast", Box::new(|| assert_eq!(fast::rows(black_box(bytes), &mut rows.borrow_mut()), accepted))),
             ("arrival fast", Box::new(|| assert_eq!(fast::arrival(black_box(bytes)), waiting))),
             #[cfg(feature = "boundary")]
-            ("finished boundary", Box::new(|| assert_eq!(boundary::finished(black_box(bytes), &mut rows.borrow_mut()), accepted))),
+            ("rows boundary", Box::new(|| assert_eq!(boundary::rows(black_box(bytes), &mut rows.borrow_mut()), accepted))),
             #[cfg(feature = "boundary")]
             ("arrival boundary", Box::new(|| assert_eq!(boundary::arrival(black_box(bytes)), waiting))),
         ],
     );
     assert!(rows.borrow().iter().zip(&p.starts).all(|(a, b)| a[0] as usize == *b));
-    ratio(&all, "finished boundary", "finished fast");
+    ratio(&all, "rows boundary", "rows fast");
     ratio(&all, "arrival boundary", "arrival fast");
+}
+
+/// The verdicts (request Fourteen), which keep no rows.
+fn measure_verdict(what: &str, p: &Product, runs: usize, times: usize) {
+    let (bytes, count) = (&p.bytes, p.starts.len());
+    println!("{what}: {} bytes, {count} records, {} pointers", bytes.len(), p.pointers.len());
+    let all = rounds(
+        runs,
+        times,
+        vec![
+            ("verdict fast", Box::new(|| assert_eq!(fast::verdict(black_box(bytes)), Ok(count as u64)))),
+            #[cfg(feature = "boundary")]
+            ("verdict boundary", Box::new(|| assert_eq!(boundary::verdict(black_box(bytes)), Ok(count as u64)))),
+        ],
+    );
+    ratio(&all, "verdict boundary", "verdict fast");
+}
+
+/// The VIADRs and MDRs of a product as a Level 0 product has them.
+fn raw_level(mut p: Product) -> Product {
+    for (k, s) in p.starts.iter().enumerate() {
+        let kind = match p.bytes[*s] {
+            7 => [0, 0, 2],
+            8 => [0, (k % 5) as u8, 1],
+            _ => continue,
+        };
+        p.bytes[s + 1..s + 4].copy_from_slice(&kind);
+    }
+    name_targets(&mut p);
+    p
+}
+
+/// The profile judges beside the row listers, which fill the same rows.
+fn measure_level0(what: &str, p: Product, runs: usize) {
+    let p = &raw_level(p);
+    let (bytes, count) = (&p.bytes, p.starts.len());
+    let rows = &RefCell::new(vec![[0; 7]; count]);
+    let accepted = Ok(count as u64);
+    println!("{what}: {} bytes, {count} records, {} pointers", bytes.len(), p.pointers.len());
+    let all = rounds(
+        runs,
+        1,
+        vec![
+            ("rows fast", Box::new(|| assert_eq!(fast::rows(black_box(bytes), &mut rows.borrow_mut()), accepted))),
+            ("level0", Box::new(|| assert_eq!(level0::level0(black_box(bytes), &mut rows.borrow_mut()), accepted))),
+            #[cfg(feature = "boundary")]
+            ("rows boundary", Box::new(|| assert_eq!(boundary::rows(black_box(bytes), &mut rows.borrow_mut()), accepted))),
+            #[cfg(feature = "boundary")]
+            ("level0 boundary", Box::new(|| assert_eq!(boundary::level0(black_box(bytes), &mut rows.borrow_mut()), accepted))),
+        ],
+    );
+    ratio(&all, "level0", "rows fast");
+    ratio(&all, "level0 boundary", "rows boundary");
+    ratio(&all, "level0 boundary", "level0");
+}
+
+/// Products into a new report, one after the other, beside their verdicts.
+fn measure_month(what: &str, products: &[Product], runs: usize) {
+    let records: usize = products.iter().map(|p| p.starts.len()).sum();
+    println!("{what}: {} products, {} bytes, {records} records", products.len(), products.iter().map(|p| p.bytes.len()).sum::<usize>());
+    let reported = |add: fn(&mut month::Report, &[u8]) -> Result<Option<Refusal>, Refusal>| {
+        let mut report = [0; month::NUMBERS];
+        for p in products {
+            assert_eq!(add(&mut report, black_box(&p.bytes)), Ok(None));
+        }
+        assert_eq!(report[1..=8].iter().sum::<u64>(), records as u64);
+    };
+    let all = rounds(
+        runs,
+        1,
+        vec![
+            ("verdicts fast", Box::new(|| products.iter().for_each(|p| assert!(fast::verdict(black_box(&p.bytes)).is_ok())))),
+            ("report", Box::new(|| reported(month::add))),
+            #[cfg(feature = "boundary")]
+            ("report boundary", Box::new(|| reported(boundary::report_add))),
+        ],
+    );
+    ratio(&all, "report", "verdicts fast");
+    ratio(&all, "report boundary", "report");
 }
 
 /// A new watch is fed the bytes in parts of one length; the last answer.
@@ -173,6 +252,41 @@ fn measure_watch(p: &Product, length: usize, runs: usize, times: usize) {
     ratio(&all, "watch", "arrival fast");
     ratio(&all, "watch boundary", "watch");
     ratio(&all, "watch boundary", "arrival boundary");
+}
+
+/// The replays of a product in parts of one length, and the writers of its record, beside the watches that are fed the same parts.
+fn measure_replay(p: &Product, length: usize, runs: usize, times: usize) {
+    let bytes = &p.bytes;
+    let waiting = Arrival::Waiting { count: p.starts.len() as u64, end: bytes.len() as u64 };
+    let lengths = &bytes.chunks(length).map(|part| part.len() as u32).collect::<Vec<u32>>();
+    let size = replay::record_size(lengths.len());
+    let room = &RefCell::new(vec![0; size]);
+    assert_eq!(replay::record_arrival(lengths, bytes, &mut room.borrow_mut()), Ok(size));
+    let record = &room.borrow().clone();
+    println!("replay: {} bytes, {} records, {} pointers, in parts of {length}", bytes.len(), p.starts.len(), p.pointers.len());
+    let all = rounds(
+        runs,
+        times,
+        vec![
+            ("watch", Box::new(|| assert_eq!(watched(bytes, length), waiting))),
+            ("replay", Box::new(|| assert_eq!(replay::replay(record, black_box(bytes)), Ok(None)))),
+            ("record", Box::new(|| assert_eq!(replay::record_arrival(lengths, black_box(bytes), &mut room.borrow_mut()), Ok(size)))),
+            #[cfg(feature = "boundary")]
+            ("watch boundary", Box::new(|| assert_eq!(watched_boundary(bytes, length), waiting))),
+            #[cfg(feature = "boundary")]
+            ("replay boundary", Box::new(|| assert_eq!(boundary::replay(record, black_box(bytes)), Ok(None)))),
+            #[cfg(feature = "boundary")]
+            (
+                "record boundary",
+                Box::new(|| assert_eq!(boundary::record_arrival_into(lengths, black_box(bytes), &mut room.borrow_mut()), Ok(size))),
+            ),
+        ],
+    );
+    assert!(*room.borrow() == *record);
+    ratio(&all, "replay", "watch");
+    ratio(&all, "replay boundary", "watch boundary");
+    ratio(&all, "replay boundary", "replay");
+    ratio(&all, "record boundary", "record");
 }
 
 /// So many records of 20,480 kinds, or of one kind.
@@ -381,9 +495,26 @@ fn main() {
     measure("small", || large(11, 1, 21, 0, true), runs, 1000);
     measure("one kind", || kinds(100_000, 335, false), runs, 1);
     measure("20,480 kinds", || kinds(100_000, 335, true), runs, 1);
-    // Not asked for, but the other path: targets that descend. The boundary may take long here, so it is left out unless SCATTERED is set.
-    if !cfg!(feature = "boundary") || std::env::var_os("SCATTERED").is_some() {
-        measure("scattered", || large(10, 20_000, 335, 20_000, false), runs, 1);
+    // The other path: targets that descend.
+    measure("scattered", || large(10, 20_000, 335, 20_000, false), runs, 1);
+    if !left_out("verdict") {
+        measure_verdict("verdict", &even(64, false), runs, 1);
+        measure_verdict("verdict, uneven", &even(64, true), runs, 1);
+        measure_verdict("verdict, long", &large(8, 300, 100 << 10, 0, true), runs, 100);
+        measure_verdict("verdict, pointers in order", &large(9, 20_000, 335, 20_000, true), runs, 1);
+        measure_verdict("verdict, pointers in no order", &large(10, 20_000, 335, 20_000, false), runs, 1);
+        // As many pointers and records as TOTAL_RECORDS can say.
+        measure_verdict("verdict, 499,999 pointers in no order", &large(16, 499_999, 20, 499_999, false), runs, 1);
+        measure_verdict("verdict, small", &large(11, 0, 20, 0, true), runs, 1000);
+    }
+    if !left_out("level0") {
+        measure_level0("level0", even(64, false), runs);
+        measure_level0("level0, uneven", even(64, true), runs);
+    }
+    if !left_out("month") {
+        let products: Vec<Product> = (0..4096).map(|seed| large(seed, 99, 100, 0, true)).collect();
+        measure_month("month", &products, runs);
+        measure_month("month, one product", &[even(64, false)], runs);
     }
     if !left_out("watch") {
         let p = even(64, false);
@@ -392,6 +523,11 @@ fn main() {
         // The main header a byte at a time.
         let p = large(12, 0, 20, 0, true);
         measure_watch(&p, 1, runs, 100);
+    }
+    if !left_out("replay") {
+        let p = even(64, false);
+        measure_replay(&p, 64 << 10, runs, 1);
+        measure_replay(&p, 1500, runs, 1);
     }
     if !left_out("lookup") {
         for (what, names) in &lookup::names() {

@@ -11,7 +11,7 @@ fn misformed(answer: &[u64]) -> ! {
 pub fn said<const N: usize>(answer: [u64; N]) -> Result<[u64; N], Refusal> {
     match (answer[0], answer[1]) {
         (0, 0) => Ok(answer),
-        (number @ (1..=23 | 25..=28 | 30..=35), place) if answer[2..].iter().all(|n| *n == 0) => Err(Refusal { number, place }),
+        (number @ (1..=23 | 25..=39), place) if answer[2..].iter().all(|n| *n == 0) => Err(Refusal { number, place }),
         _ => misformed(&answer),
     }
 }

@@ -5,7 +5,9 @@
 extern "C" {
     fn wl_arrival(bytes: *const u8, len: usize, answer: &mut [u64; 4]);
     fn wl_extent(bytes: *const u8, len: usize, answer: &mut [u64; 4]);
-    fn wl_finished(bytes: *const u8, len: usize, rows: *mut [u32; 7], room: usize, answer: &mut [u64; 4]);
+    fn wl_verdict(bytes: *const u8, len: usize, answer: &mut [u64; 4]);
+    fn wl_rows(bytes: *const u8, len: usize, rows: *mut [u32; 7], room: usize, answer: &mut [u64; 4]);
+    fn wl_level0(bytes: *const u8, len: usize, rows: *mut [u32; 7], room: usize, answer: &mut [u64; 4]);
 
     fn wl_watch_new(watch: &mut Watch);
     fn wl_watch_feed(watch: &mut Watch, part: *const u8, len: usize, answer: &mut [u64; 4]);
@@ -29,6 +31,15 @@ extern "C" {
         first: *const u8, first_len: usize, second: *const u8, second_len: usize, room: *mut u8, room_len: usize, answer: &mut [u64; 4],
     );
     fn wl_check_cut(original: *const u8, len: usize, cut: *const u8, cut_len: usize, answer: &mut [u64; 4]);
+
+    fn wl_replay(record: *const u8, len: usize, product: *const u8, product_len: usize, answer: &mut [u64; 4]);
+    #[rustfmt::skip]
+    fn wl_record_arrival(
+        lengths: *const u32, count: usize, product: *const u8, len: usize, room: *mut u8, room_len: usize, answer: &mut [u64; 4],
+    );
+
+    fn wl_report_add(report: &mut [u64; 38], bytes: *const u8, len: usize, answer: &mut [u64; 4]);
+    fn wl_report_merge(report: &mut [u64; 38], other: &[u64; 38], answer: &mut [u64; 4]);
 
     #[rustfmt::skip]
     fn wl_uth(
@@ -151,9 +162,19 @@ pub fn extent(bytes: &[u8]) -> [u64; 4] {
     answered(|answer| unsafe { wl_extent(bytes.as_ptr(), bytes.len(), answer) })
 }
 
-pub fn finished(bytes: &[u8], rows: &mut [[u32; 7]]) -> [u64; 4] {
+pub fn verdict(bytes: &[u8]) -> [u64; 4] {
     // SAFETY: as above.
-    answered(|answer| unsafe { wl_finished(bytes.as_ptr(), bytes.len(), rows.as_mut_ptr(), rows.len(), answer) })
+    answered(|answer| unsafe { wl_verdict(bytes.as_ptr(), bytes.len(), answer) })
+}
+
+pub fn rows(bytes: &[u8], rows: &mut [[u32; 7]]) -> [u64; 4] {
+    // SAFETY: as above.
+    answered(|answer| unsafe { wl_rows(bytes.as_ptr(), bytes.len(), rows.as_mut_ptr(), rows.len(), answer) })
+}
+
+pub fn level0(bytes: &[u8], rows: &mut [[u32; 7]]) -> [u64; 4] {
+    // SAFETY: as above.
+    answered(|answer| unsafe { wl_level0(bytes.as_ptr(), bytes.len(), rows.as_mut_ptr(), rows.len(), answer) })
 }
 
 pub fn watch_new() -> Watch {
@@ -230,6 +251,28 @@ pub fn join(first: &[u8], second: &[u8], room: &mut [u8]) -> [u64; 4] {
 pub fn check_cut(original: &[u8], cut: &[u8]) -> [u64; 4] {
     // SAFETY: as above.
     answered(|answer| unsafe { wl_check_cut(original.as_ptr(), original.len(), cut.as_ptr(), cut.len(), answer) })
+}
+
+pub fn replay(record: &[u8], product: &[u8]) -> [u64; 4] {
+    // SAFETY: as above.
+    answered(|answer| unsafe { wl_replay(record.as_ptr(), record.len(), product.as_ptr(), product.len(), answer) })
+}
+
+pub fn record_arrival(lengths: &[u32], product: &[u8], room: &mut [u8]) -> [u64; 4] {
+    // SAFETY: as above.
+    answered(|answer| unsafe {
+        wl_record_arrival(lengths.as_ptr(), lengths.len(), product.as_ptr(), product.len(), room.as_mut_ptr(), room.len(), answer)
+    })
+}
+
+pub fn report_add(report: &mut [u64; 38], bytes: &[u8]) -> [u64; 4] {
+    // SAFETY: as above; the report has its places.
+    answered(|answer| unsafe { wl_report_add(report, bytes.as_ptr(), bytes.len(), answer) })
+}
+
+pub fn report_merge(report: &mut [u64; 38], other: &[u64; 38]) -> [u64; 4] {
+    // SAFETY: as above; each report has its places.
+    answered(|answer| unsafe { wl_report_merge(report, other, answer) })
 }
 
 pub fn is_date((year, month, day): (u16, u8, u8)) -> [u64; 4] {

@@ -1,0 +1,4 @@
+pub mod PlusLaws
+pub mod MomentLaws
+pub mod CountLaws
+pub mod JoinLaws

@@ -117,3 +117,18 @@ pub record AddIs (a x : List ℕ) (r : Added) (y : List ℕ) : Type 0 where
 pub data MergeIs (x y : List ℕ) : Merged → List ℕ → Type 0 where
   merged : Within (plus x y) → MergeIs x y M.Done (plus x y)
   over : (Within (plus x y) → ⊥) → MergeIs x y (M.Refused (refusing 36 0)) x
+
+-- ---- A LIST OF PRODUCTS, "lent one after the other" to the report x: rs is answered of the products ps, and the report is y then
+pub data Lent : List ℕ → List (List ℕ) → List Added → List ℕ → Type 0 where
+  done : {x : List ℕ} → Lent x [] [] x
+  next : {a x y z : List ℕ} {ps : List (List ℕ)} {r : Added} {rs : List Added} → AddIs a x r y → Lent y ps rs z → Lent x (a ∷ ps) (r ∷ rs) z
+
+-- "never meets 36"
+abbrev pub IsIn : Added → Type 0
+IsIn A.Accepted = Unit
+IsIn (A.Tallied r) = Unit
+IsIn (A.Refused r) = ⊥
+
+abbrev pub AllIn : List Added → Type 0
+AllIn [] = Unit
+AllIn (r ∷ rs) = IsIn r × AllIn rs

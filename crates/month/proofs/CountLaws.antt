@@ -1,6 +1,6 @@
 -- One pass over a product's records: what the sums have come to, with what the records that are left add, is the whole, which is small enough for 64 bits. By
 -- the records from the one at hand to the product's end. Assumes nothing.
-use Prim.Native.Nat.{ℕ, zero, suc, _+_, _-_, _*_, _≤_, _<_}
+use Prim.Native.Nat.{ℕ, _+_, _-_, _*_, _≤_, _<_}
 use native.Mathlib.Decide.{ℕ-discrete}
 use native.Mathlib.Omega.{arith}
 use mathlib.Core.Path.{_≡_, refl, sym, ap, subst, _∙_}
@@ -26,6 +26,7 @@ use Rattle.month.specs.Report.{sumOf, recordsIn, bytesIn, mdrs, overPair
 use Rattle.month.specs.Counting.{BetweenIs, held, withLeft, PairSums, mdrHere, Paired, PairedOn}
 use Rattle.month.specs.declared.moment.Between.{Between}
 use Rattle.month.specs.declared.count.Pairs.{Pairs}
+use Rattle.month.proofs.PlusLaws.{none-at}
 use Rattle.month.proofs.MomentLaws.{low-at, gap-most, overlap-most, undefined-most}
 
 -- ---- THE PAIRS
@@ -196,19 +197,11 @@ first {a} t = record {
   ahead = all-records t;
   nine = refl;
   nine-bytes = refl;
-  counts = record { each = λ c. omega (arith, zeros c) };
-  sizes = record { each = λ c. omega (arith, zeros c) };
+  counts = record { each = λ c. omega (arith, none-at 9 c) };
+  sizes = record { each = λ c. omega (arith, none-at 9 c) };
   last = omega (arith, t .come, t .header .least);
   pairs = record { gap = omega arith; overlap = omega arith; undefined = omega arith };
 }
-  where
-    none-at : (n c : ℕ) → _≡_ {A = ℕ} (getD (replicate n 0) c 0) 0
-    none-at zero c = refl
-    none-at (suc n) zero = refl
-    none-at (suc n) (suc c) = none-at n c
-
-    zeros : (c : ℕ) → _≡_ {A = ℕ} (getD (replicate 9 0) c 0) 0
-    zeros c = none-at 9 c
 
 -- where a byte is left, a record stands there
 pub record Here (a whole records bytes : List ℕ) (p : Pairs) (i : ℕ) : Type 0 where

@@ -1,7 +1,7 @@
 -- LISTS OF PRODUCTS: what `add` leaves, product after product, is the report of the list; 36 is met where that report leaves its limits, and there alone; in
 -- every order the report is the same; and the report of two lists, one after the other, is the merge of their reports. By induction on the list. Assumes
 -- nothing.
-use Prim.Native.Nat.{ℕ, zero, suc, _+_, _≤_}
+use Prim.Native.Nat.{ℕ, _+_}
 use native.Mathlib.Omega.{arith}
 use mathlib.Core.Path.{_≡_, refl, sym, ap, subst, _∙_}
 use mathlib.Core.List.{List, [], _∷_, _++_, List·Permᴰ, List·Permᴰ·nil, List·Permᴰ·cons, List·Permᴰ·swap, List·Permᴰ·trans}
@@ -11,8 +11,8 @@ use Rattle.month.specs.declared.report.Added.{Added}
 use Rattle.month.specs.declared.report.Added.the-variants as A
 use Rattle.month.specs.declared.report.Merged.{Merged}
 use Rattle.month.specs.declared.report.Merged.the-variants as M
-use Rattle.month.proofs.PlusLaws.{plus-assoc, plus-swap, plus-length, plus-empty, empty-plus, within-left}
-use Rattle.month.proofs.ReportLaws.{none-at, unique-contribution}
+use Rattle.month.proofs.PlusLaws.{none-at, plus-assoc, plus-swap, plus-length, plus-empty, empty-plus, within-left}
+use Rattle.month.proofs.ReportLaws.{unique-contribution}
 
 -- ---- the report of a list is one, and has 38 numbers
 pub unique-report : {ps : List (List ℕ)} {v w : List ℕ} → Reports ps v → Reports ps w → v ≡ w

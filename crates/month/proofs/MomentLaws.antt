@@ -5,15 +5,17 @@ use native.Mathlib.Decide.{ℕ-discrete, decLt}
 use native.Mathlib.Omega.{arith}
 use mathlib.Core.Path.{_≡_, refl, sym, ap, subst, _∙_}
 use mathlib.Core.Bool.{Bool, true, false, cond}
+use mathlib.Core.Logic.{_⊎_, inl, inr}
 use mathlib.Core.List.{List}
 use borrow.Author.Tests.{le-ltb, lt-ltb, eq-eqb, ne-eqb}
 use lib.Dec.{eqb, ltb}
 use lib.ListN.{getD}
 use Rattle.calendar.specs.Calendar.{leapDay}
 use Rattle.meter.specs.Integer.{beAt}
-use Rattle.meter.specs.Time.{lastMilli, timeOf, timeAt}
+use Rattle.meter.specs.Time.{lastMilli, timeOf, timeAt, orderOf}
 use Rattle.meter.specs.declared.time.Time.{Time}
 use Rattle.meter.specs.declared.time.Time.the-variants as T
+use Rattle.meter.specs.declared.time.Order.the-variants as O
 use Rattle.meter.proofs.IntegerLaws.{beAt-lt}
 use Rattle.meter.proofs.TimeLaws.{bits-none, bits-some}
 use Rattle.month.specs.Moment.{extraBefore, onLine, gapBetween, overlapBetween, undefinedBetween}
@@ -75,6 +77,58 @@ next-day d = go (leapDay d)
     go : (b : Bool) → suc d * 86400000 + (extraBefore d + cond b 1000 0) + 0 ≡ d * 86400000 + extraBefore d + cond b 86400999 86399999 + 1
     go true = omega arith
     go false = omega arith
+
+days-le : (d e : ℕ) → d ≤ e → onLine d 0 ≤ onLine e 0
+days-le d zero h = let z : d ≡ 0 = omega arith in rw z (omega arith)
+days-le d (suc e) h = go (ℕ-discrete d (suc e)) (days-le d e)
+  where
+    go : Dec (d ≡ suc e) → (d ≤ e → onLine d 0 ≤ onLine e 0) → onLine d 0 ≤ onLine (suc e) 0
+    go (yes q) f = rw q (omega arith)
+    go (no n) f = omega (arith, f (omega (arith, n)), next-day e)
+
+-- a later day is later on the line
+pub later-day : (d m e n : ℕ) → d < e → m ≤ lastMilli d → onLine d m < onLine e n
+later-day d m e n h l = omega (arith, next-day d, days-le (suc d) e h)
+
+-- ---- THE ORDER on the line is that of times, by day and then millisecond
+pub line-order :
+    (d m e n : ℕ) → m ≤ lastMilli d → n ≤ lastMilli e
+    → orderOf d m e n ≡ cond (ltb (onLine d m) (onLine e n)) O.Before (cond (ltb (onLine e n) (onLine d m)) O.After O.Same)
+line-order d m e n p q = go (decLt d e) (decLt e d) (decLt m n) (decLt n m)
+  where
+    go : Dec (d < e) → Dec (e < d) → Dec (m < n) → Dec (n < m) → orderOf d m e n ≡ cond (ltb (onLine d m) (onLine e n)) O.Before (cond (ltb (onLine e n) (onLine d m)) O.After O.Same)
+    go (yes h) b x y = rw (lt-ltb d e h, lt-ltb (onLine d m) (onLine e n) (later-day d m e n h p)) refl
+    go (no g) (yes h) x y =
+        let l = later-day e n d m h q in
+        rw (le-ltb d e (omega (arith, g)), lt-ltb e d h, le-ltb (onLine d m) (onLine e n) (omega (arith, l)), lt-ltb (onLine e n) (onLine d m) l) refl
+    go (no g) (no h) (yes x) y =
+        let z : d ≡ e = omega (arith, g, h) in
+        rw (le-ltb d e (omega (arith, z)), le-ltb e d (omega (arith, z)), lt-ltb m n x, lt-ltb (onLine d m) (onLine e n) (omega (arith, z, ap extraBefore z))) refl
+    go (no g) (no h) (no x) (yes y) =
+        let z : d ≡ e = omega (arith, g, h) in
+        rw (le-ltb d e (omega (arith, z)), le-ltb e d (omega (arith, z)), le-ltb m n (omega (arith, x)), lt-ltb n m y, le-ltb (onLine d m) (onLine e n) (omega (arith, y, z, ap extraBefore z)), lt-ltb (onLine e n) (onLine d m) (omega (arith, y, z, ap extraBefore z))) refl
+    go (no g) (no h) (no x) (no y) =
+        let z : d ≡ e = omega (arith, g, h) in
+        rw (le-ltb d e (omega (arith, z)), le-ltb e d (omega (arith, z)), le-ltb m n (omega (arith, x)), le-ltb n m (omega (arith, y)), le-ltb (onLine d m) (onLine e n) (omega (arith, x, y, z, ap extraBefore z)), le-ltb (onLine e n) (onLine d m) (omega (arith, x, y, z, ap extraBefore z))) refl
+
+-- ---- "A gap across one of request Two's days counts that day's extra second": from its millisecond 86,399,999 to the next day's first
+pub gap-across : (d : ℕ) → leapDay d ≡ true → gapBetween (T.At d 86399999) (T.At (suc d) 0) ≡ 1001
+unfolding extraBefore
+gap-across d e = rw e (omega arith)
+
+pub gap-plain : (d : ℕ) → leapDay d ≡ false → gapBetween (T.At d 86399999) (T.At (suc d) 0) ≡ 1
+unfolding extraBefore
+gap-plain d e = rw e (omega arith)
+
+-- a pair has a gap or an overlap, not both
+pub gap-or-overlap : (t u : Time) → (gapBetween t u ≡ 0) ⊎ (overlapBetween t u ≡ 0)
+gap-or-overlap T.Undefined u = inl refl
+gap-or-overlap (T.At d m) T.Undefined = inl refl
+gap-or-overlap (T.At d m) (T.At e n) = go (decLt (onLine d m) (onLine e n))
+  where
+    go : Dec (onLine d m < onLine e n) → (onLine e n - onLine d m ≡ 0) ⊎ (onLine d m - onLine e n ≡ 0)
+    go (yes h) = inr (omega arith)
+    go (no h) = inl (omega (arith, h))
 
 -- ---- the times of 48 bits
 abbrev pub Low : Time → Type 0

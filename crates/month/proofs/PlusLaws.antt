@@ -40,6 +40,11 @@ plus-length [] (y ∷ ys) e = absurd (omega arith)
 plus-length (x ∷ xs) [] e = refl
 plus-length (x ∷ xs) (y ∷ ys) e = ap suc (plus-length xs ys (omega arith))
 
+pub none-at : (n k : ℕ) → _≡_ {A = ℕ} (getD (replicate n 0) k 0) 0
+none-at zero k = refl
+none-at (suc n) zero = refl
+none-at (suc n) (suc k) = none-at n k
+
 zeros : (n : ℕ) (x : List ℕ) → length x ≡ n → plus x (replicate n 0) ≡ x
 zeros zero [] e = refl
 zeros zero (x ∷ xs) e = refl

@@ -1,7 +1,7 @@
 -- ONE PRODUCT AND ONE MERGE: no second answer and no second report fits; merging is commutative and associative, with a new report as its unit; a refused
 -- product adds one to its tally and to the products, and nothing else; the totals are those of the rows. By cases on the answers, and by the laws of
 -- sums. Assumes nothing.
-use Prim.Native.Nat.{ℕ, zero, suc, _+_, _≤_, _<_}
+use Prim.Native.Nat.{ℕ, _+_, _≤_}
 use native.Mathlib.Decide.{ℕ-discrete}
 use native.Mathlib.Omega.{arith}
 use mathlib.Core.Path.{_≡_, refl, sym, ap, subst, _∙_}
@@ -25,7 +25,7 @@ use Rattle.month.specs.declared.report.Added.{Added}
 use Rattle.month.specs.declared.report.Added.the-variants as A
 use Rattle.month.specs.declared.report.Merged.{Merged}
 use Rattle.month.specs.declared.report.Merged.the-variants as M
-use Rattle.month.proofs.PlusLaws.{plus-at, plus-comm, plus-assoc, plus-empty, empty-plus, within-left, within-right}
+use Rattle.month.proofs.PlusLaws.{none-at, plus-at, plus-comm, plus-assoc, plus-empty, empty-plus, within-left, within-right}
 
 -- ---- NO SECOND ANSWER FITS
 -- a product has come whole, so the judge neither refuses it nor waits
@@ -129,11 +129,6 @@ pub empty-merge : {x z : List ℕ} {r : Merged} → length x ≡ 38 → Within x
 empty-merge {x} e w m = let q = merge-within (within-at (sym (empty-plus x e)) w) m in (q .0, q .1 ∙ empty-plus x e)
 
 -- ---- "a refused product adds nothing but one to its refusal's tally": and one to the products, "refused ones counted"
-pub none-at : (n k : ℕ) → _≡_ {A = ℕ} (getD (replicate n 0) k 0) 0
-none-at zero k = refl
-none-at (suc n) zero = refl
-none-at (suc n) (suc k) = none-at n k
-
 pub record OnlyTally (x y : List ℕ) (n : ℕ) : Type 0 where
   pub low : 1 ≤ n
   pub high : n ≤ 17

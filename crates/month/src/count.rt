@@ -60,50 +60,35 @@ fn paired(s: &[u8], pairs: Pairs, at: usize, class: usize) -> Pairs
 
 // The 38 numbers of one accepted product.
 fn totals_of(records: &[u64; 9], bytes: &[u64; 9], pairs: Pairs) -> [u64; 38]
-    ensures { λ r. ⌜ r ≡ totals (λ c. getD (now (records .entry)) c 0) (λ c. getD (now (bytes .entry)) c 0) (pairs .gap) (pairs .overlap) (pairs .undefined) ⌝ }
+    ensures { λ r. ⌜ r ≡ totals (λ c. getD (now (records .entry)) c 0) (λ c. getD (now (bytes .entry)) c 0)
+        (pairs .gap) (pairs .overlap) (pairs .undefined) ⌝ }
 {
-    [
-        1,
-        records[1],
-        records[2],
-        records[3],
-        records[4],
-        records[5],
-        records[6],
-        records[7],
-        records[8],
-        bytes[1],
-        bytes[2],
-        bytes[3],
-        bytes[4],
-        bytes[5],
-        bytes[6],
-        bytes[7],
-        bytes[8],
-        pairs.gap,
-        pairs.overlap,
-        pairs.undefined,
-        1,
-        0,
-        0,
-        0,
-        0,
-        0,
-        0,
-        0,
-        0,
-        0,
-        0,
-        0,
-        0,
-        0,
-        0,
-        0,
-        0,
-        0,
-    ]
+    let mut t = [0u64; 38];
+    t[0] = 1;
+    t[1] = records[1];
+    t[2] = records[2];
+    t[3] = records[3];
+    t[4] = records[4];
+    t[5] = records[5];
+    t[6] = records[6];
+    t[7] = records[7];
+    t[8] = records[8];
+    t[9] = bytes[1];
+    t[10] = bytes[2];
+    t[11] = bytes[3];
+    t[12] = bytes[4];
+    t[13] = bytes[5];
+    t[14] = bytes[6];
+    t[15] = bytes[7];
+    t[16] = bytes[8];
+    t[17] = pairs.gap;
+    t[18] = pairs.overlap;
+    t[19] = pairs.undefined;
+    t[20] = 1;
+    t
 }
 
+// One pass over the headers. What is added fits: of the 64 bits a gap takes 43 at most, and a product has no more than 999,999 MDRs.
 pub(crate) fn count_records(s: &[u8]) -> [u64; 38]
     requires { ⌜ Meets (now s) ⌝ }
     ensures { λ r. ⌜ CountsAll (now (s .entry)) r ⌝ }

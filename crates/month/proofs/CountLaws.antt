@@ -12,6 +12,7 @@ use lib.ListN.{length, getD, set, replicate, length-set}
 use lib.Seq.{getD-set-same, getD-set-other}
 use Rattle.meter.specs.Integer.{beAt}
 use Rattle.meter.specs.Time.{timeOf, timeAt}
+use Rattle.meter.specs.declared.time.Time.{Time}
 use Rattle.text.proofs.Exact.{is-small}
 use Rattle.mphr.specs.Table.{total}
 use Rattle.mphr.proofs.LineLaws.{total-is, total-number}
@@ -27,74 +28,80 @@ use Rattle.month.specs.Counting.{BetweenIs, held, withLeft, PairSums, md
 use Rattle.month.specs.declared.moment.Between.{Between}
 use Rattle.month.specs.declared.count.Pairs.{Pairs}
 use Rattle.month.proofs.PlusLaws.{none-at}
-use Rattle.month.proofs.MomentLaws.{low-at, gap-most, overlap-most, undefined-most}
+use Rattle.month.proofs.MomentLaws.{Low, low-at, gap-most, overlap-most, undefined-most}
 
 -- ---- THE PAIRS
--- one sum, whichever it is
-module _ (f : ℕ → ℕ → ℕ) (s last i c : ℕ) (xs : List ℕ) where
-  no-pair : (c ≡ 8 → ⊥) → withLeft f s last (mdrHere c i xs) ≡ withLeft f s last xs
-  no-pair n = rw (ne-eqb c 8 n) refl
+-- one sum, whichever it is: of the n that it has come to, with the MDR at byte i, and of what that adds
+module _ (f : ℕ → ℕ → ℕ) (n last i c : ℕ) {x : ℕ} (xs : List ℕ) (left : withLeft f n last (mdrHere c i xs) ≡ x) where
+  no-pair : (c ≡ 8 → ⊥) → withLeft f n last xs ≡ x
+  no-pair d = rw (ne-eqb c 8 d) at left
 
   module _ (e : c ≡ 8) (later : i ≡ 0 → ⊥) where
-    first-pair : last ≡ 0 → withLeft f s last (mdrHere c i xs) ≡ withLeft f s i xs
-    first-pair d = rw (e, d, ne-eqb i 0 later) refl
+    first-pair : last ≡ 0 → withLeft f n i xs ≡ x
+    first-pair d = let h : withLeft f n last (mdrHere c i xs) ≡ withLeft f n i xs = rw (e, d, ne-eqb i 0 later) refl in sym h ∙ left
 
-    next-pair : (last ≡ 0 → ⊥) → withLeft f s last (mdrHere c i xs) ≡ withLeft f (s + f last i) i xs
-    next-pair n = rw (e, ne-eqb last 0 n, ne-eqb i 0 later) (omega arith)
+    module _ (some : last ≡ 0 → ⊥) {b : ℕ} (b-is : b ≡ f last i) where
+      next-pair : withLeft f (n + b) i xs ≡ x
+      next-pair = let h : withLeft f n last (mdrHere c i xs) ≡ withLeft f (n + b) i xs = rw (e, b-is, ne-eqb last 0 some, ne-eqb i 0 later) (omega arith) in sym h ∙ left
 
-    pub pair-less : (last ≡ 0 → ⊥) → s + f last i ≤ withLeft f s last (mdrHere c i xs)
-    pair-less n = omega (arith, next-pair n)
+      pair-fits : x < 18446744073709551616 → n + b < 18446744073709551616
+      pair-fits h = omega (arith, next-pair)
+
+-- the three of them, where there is a last MDR, which has b with this one
+pub record NextPair (a : List ℕ) (p : Pairs) (i c : ℕ) (b : Between) : Type 0 where
+  pub gap-fits : p .gap + b .gap < 18446744073709551616
+  pub overlap-fits : p .overlap + b .overlap < 18446744073709551616
+  pub undefined-fits : p .undefined + b .undefined < 18446744073709551616
+  pub on : PairedOn a p i c (record { last = i; gap = p .gap + b .gap; overlap = p .overlap + b .overlap; undefined = p .undefined + b .undefined })
 
 module _ {a : List ℕ} {p : Pairs} {i c : ℕ} (q : Paired a p i c) where
+  abbrev gapAt : ℕ → ℕ → ℕ
+  gapAt = stopToStart gapBetween a
+
+  abbrev overlapAt : ℕ → ℕ → ℕ
+  overlapAt = stopToStart overlapBetween a
+
+  abbrev undefinedAt : ℕ → ℕ → ℕ
+  undefinedAt = stopToStart undefinedBetween a
+
   pub paired-other : (c ≡ 8 → ⊥) → PairedOn a p i c p
-  paired-other n = record {
+  paired-other d = record {
     last = q .last;
     sums = λ xs x y z s. record {
-      gap = sym (no-pair (stopToStart gapBetween a) (p .gap) (p .last) i c xs n) ∙ s .gap;
-      overlap = sym (no-pair (stopToStart overlapBetween a) (p .overlap) (p .last) i c xs n) ∙ s .overlap;
-      undefined = sym (no-pair (stopToStart undefinedBetween a) (p .undefined) (p .last) i c xs n) ∙ s .undefined;
+      gap = no-pair gapAt (p .gap) (p .last) i c xs (s .gap) d;
+      overlap = no-pair overlapAt (p .overlap) (p .last) i c xs (s .overlap) d;
+      undefined = no-pair undefinedAt (p .undefined) (p .last) i c xs (s .undefined) d;
     };
   }
 
   module _ (e : c ≡ 8) where
     pub paired-first : p .last ≡ 0 → PairedOn a p i c (record { last = i; gap = p .gap; overlap = p .overlap; undefined = p .undefined })
-    paired-first d =
-        let n = q .later e in
+    paired-first d = record {
+      last = q .here;
+      sums = λ xs x y z s. record {
+        gap = first-pair gapAt (p .gap) (p .last) i c xs (s .gap) e (q .later e) d;
+        overlap = first-pair overlapAt (p .overlap) (p .last) i c xs (s .overlap) e (q .later e) d;
+        undefined = first-pair undefinedAt (p .undefined) (p .last) i c xs (s .undefined) e (q .later e) d;
+      };
+    }
+
+    pub paired-next : (p .last ≡ 0 → ⊥) → {v w : ℕ} {b : Between} → v ≡ beAt a (p .last + 14) 6 → w ≡ beAt a (i + 8) 6 → BetweenIs (timeOf v) (timeOf w) b → NextPair a p i c b
+    paired-next d {v} {w} {b} v-is w-is k =
+        let m : BetweenIs (timeAt a (p .last + 14)) (timeAt a (i + 8)) b = subst (λ (x : ℕ). BetweenIs (timeAt a (p .last + 14)) (timeOf x) b) w-is (subst (λ (x : ℕ). BetweenIs (timeOf x) (timeOf w) b) v-is k) in
+        let t = q .sums in
         record {
-          last = q .here;
-          sums = λ xs x y z s. record {
-            gap = sym (first-pair (stopToStart gapBetween a) (p .gap) (p .last) i c xs e n d) ∙ s .gap;
-            overlap = sym (first-pair (stopToStart overlapBetween a) (p .overlap) (p .last) i c xs e n d) ∙ s .overlap;
-            undefined = sym (first-pair (stopToStart undefinedBetween a) (p .undefined) (p .last) i c xs e n d) ∙ s .undefined;
-          };
-        }
-
-    module _ (some : p .last ≡ 0 → ⊥) {v w : ℕ} {b : Between} (v-is : v ≡ beAt a (p .last + 14) 6) (w-is : w ≡ beAt a (i + 8) 6) (k : BetweenIs (timeOf v) (timeOf w) b) where
-      between : BetweenIs (timeAt a (p .last + 14)) (timeAt a (i + 8)) b
-      between = subst (λ (x : ℕ). BetweenIs (timeAt a (p .last + 14)) (timeOf x) b) w-is (subst (λ (x : ℕ). BetweenIs (timeOf x) (timeOf w) b) v-is k)
-
-      pub gap-fits : p .gap + b .gap < 18446744073709551616
-      gap-fits = omega (arith, between .gap, q .sums .gap, q .gap-small, pair-less (stopToStart gapBetween a) (p .gap) (p .last) i c (q .xs) e (q .later e) some)
-
-      pub overlap-fits : p .overlap + b .overlap < 18446744073709551616
-      overlap-fits =
-          omega (arith, between .overlap, q .sums .overlap, q .overlap-small, pair-less (stopToStart overlapBetween a) (p .overlap) (p .last) i c (q .xs) e (q .later e) some)
-
-      pub undefined-fits : p .undefined + b .undefined < 18446744073709551616
-      undefined-fits =
-          omega (arith, between .undefined, q .sums .undefined, q .undefined-small, pair-less (stopToStart undefinedBetween a) (p .undefined) (p .last) i c (q .xs) e (q .later e) some)
-
-      pub paired-next : PairedOn a p i c (record { last = i; gap = p .gap + b .gap; overlap = p .overlap + b .overlap; undefined = p .undefined + b .undefined })
-      paired-next =
-          let n = q .later e in
-          record {
+          gap-fits = pair-fits gapAt (p .gap) (p .last) i c (q .xs) (t .gap) e (q .later e) d (m .gap) (q .gap-small);
+          overlap-fits = pair-fits overlapAt (p .overlap) (p .last) i c (q .xs) (t .overlap) e (q .later e) d (m .overlap) (q .overlap-small);
+          undefined-fits = pair-fits undefinedAt (p .undefined) (p .last) i c (q .xs) (t .undefined) e (q .later e) d (m .undefined) (q .undefined-small);
+          on = record {
             last = q .here;
             sums = λ xs x y z s. record {
-              gap = rw (between .gap) (sym (next-pair (stopToStart gapBetween a) (p .gap) (p .last) i c xs e n some) ∙ s .gap);
-              overlap = rw (between .overlap) (sym (next-pair (stopToStart overlapBetween a) (p .overlap) (p .last) i c xs e n some) ∙ s .overlap);
-              undefined = rw (between .undefined) (sym (next-pair (stopToStart undefinedBetween a) (p .undefined) (p .last) i c xs e n some) ∙ s .undefined);
+              gap = next-pair gapAt (p .gap) (p .last) i c xs (s .gap) e (q .later e) d (m .gap);
+              overlap = next-pair overlapAt (p .overlap) (p .last) i c xs (s .overlap) e (q .later e) d (m .overlap);
+              undefined = next-pair undefinedAt (p .undefined) (p .last) i c xs (s .undefined) e (q .later e) d (m .undefined);
             };
-          }
+          };
+        }
 
 pairs-most : (f : ℕ → ℕ → ℕ) → ((i j : ℕ) → f i j ≤ 8796093022208) → (xs : List ℕ) → overPairs f xs ≤ length xs * 8796093022208
 pairs-most f h [] = omega arith
@@ -172,15 +179,21 @@ module _ {a : List ℕ} (t : Meets a) where
       let n : total a 8 < 1000000 = rw (total-is a 8 (omega arith)) (is-small false a (2675 + 39 * 8) 6 (total-number a 8 (omega arith) (t .header .lines 63 (omega arith) .1))) in
       omega (arith, mdrs-count a (0 ∷ t .list), of-class a 8 (0 ∷ t .list), t .totals 8 (omega arith) (omega arith), n)
 
+  -- a sum over the pairs, each of which is below 2 ^ 43
   module _ (byte : (k : ℕ) → getD a k 0 < 256) where
+    few : (f : Time → Time → ℕ) → ((t u : Time) → Low t → Low u → f t u ≤ 8796093022208) → overPairs (stopToStart f a) (mdrs a (0 ∷ t .list)) < 18446744073709551616
+    few f h =
+        let low = low-at a byte in
+        omega (arith, few-mdrs, pairs-most (stopToStart f a) (λ i j. h (timeAt a (i + 14)) (timeAt a (j + 8)) (low (i + 14)) (low (j + 8))) (mdrs a (0 ∷ t .list)))
+
     pub few-gaps : gaps a (0 ∷ t .list) < 18446744073709551616
-    few-gaps = omega (arith, few-mdrs, pairs-most (stopToStart gapBetween a) (λ i j. gap-most (timeAt a (i + 14)) (timeAt a (j + 8)) (low-at a byte (i + 14)) (low-at a byte (j + 8))) (mdrs a (0 ∷ t .list)))
+    few-gaps = few gapBetween gap-most
 
     pub few-overlaps : overlaps a (0 ∷ t .list) < 18446744073709551616
-    few-overlaps = omega (arith, few-mdrs, pairs-most (stopToStart overlapBetween a) (λ i j. overlap-most (timeAt a (i + 14)) (timeAt a (j + 8)) (low-at a byte (i + 14)) (low-at a byte (j + 8))) (mdrs a (0 ∷ t .list)))
+    few-overlaps = few overlapBetween overlap-most
 
     pub few-undefined : undefinedPairs a (0 ∷ t .list) < 18446744073709551616
-    few-undefined = omega (arith, few-mdrs, pairs-most (stopToStart undefinedBetween a) (λ i j. undefined-most (timeAt a (i + 14)) (timeAt a (j + 8)) (low-at a byte (i + 14)) (low-at a byte (j + 8))) (mdrs a (0 ∷ t .list)))
+    few-undefined = few undefinedBetween undefined-most
 
 -- ---- BETWEEN TWO RECORDS: those at the bytes l are left, the first of them at byte i
 pub record Sofar (a whole records bytes : List ℕ) (p : Pairs) (i : ℕ) (l : List ℕ) : Type 0 where

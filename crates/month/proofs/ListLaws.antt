@@ -1,17 +1,18 @@
 -- LISTS OF PRODUCTS: what `add` leaves, product after product, is the report of the list; 36 is met where that report leaves its limits, and there alone; in
 -- every order the report is the same; and the report of two lists, one after the other, is the merge of their reports. By induction on the list. Assumes
 -- nothing.
-use Prim.Native.Nat.{ℕ, _+_}
+use Prim.Native.Nat.{ℕ, _+_, _<_}
 use native.Mathlib.Omega.{arith}
 use mathlib.Core.Path.{_≡_, refl, sym, ap, subst, _∙_}
 use mathlib.Core.List.{List, [], _∷_, _++_, List·Permᴰ, List·Permᴰ·nil, List·Permᴰ·cons, List·Permᴰ·swap, List·Permᴰ·trans}
 use lib.ListN.{length, getD, set, replicate, length-set}
+use lib.Seq.{getD-set-other}
 use Rattle.month.specs.Report.{contribution, tallied, Contributes, accepted, unfit, short, plus, empty, Reports, none, more, Within, JoinIs, joined, past, AddIs, MergeIs, merged, over, Lent, done, next, IsIn, AllIn}
 use Rattle.month.specs.declared.report.Added.{Added}
 use Rattle.month.specs.declared.report.Added.the-variants as A
 use Rattle.month.specs.declared.report.Merged.{Merged}
 use Rattle.month.specs.declared.report.Merged.the-variants as M
-use Rattle.month.proofs.PlusLaws.{none-at, plus-assoc, plus-swap, plus-length, plus-empty, empty-plus, within-left}
+use Rattle.month.proofs.PlusLaws.{none-at, plus-at, plus-assoc, plus-swap, plus-length, plus-empty, empty-plus, within-left}
 use Rattle.month.proofs.ReportLaws.{unique-contribution}
 
 -- ---- the report of a list is one, and has 38 numbers
@@ -78,6 +79,21 @@ never-36 {x} (more {v = v} {x = u} s c r) w (next p l) =
     let all : Within (plus (plus x (p .share)) u) = subst Within (ap (λ (z : List ℕ). plus x (plus z u)) e ∙ sym (plus-assoc x (p .share) u)) w in
     let j = within-joins (within-left (plus x (p .share)) u all) (p .contributes) (p .joins) in
     (j .0, never-36 r (subst (λ (z : List ℕ). Within (plus z u)) (sym (j .1)) all) l)
+
+-- "a 4,097th product (refused ones counted)": each adds one to the products, so that a longer list leaves the limits
+adds-one : {a v : List ℕ} {s : Added} → Contributes a s v → getD v 0 0 ≡ 1
+adds-one (accepted t) = refl
+adds-one (unfit r g) =
+    let one : List ℕ = set (replicate 38 0) 0 1 in
+    getD-set-other one (20 + r .number) 0 1 0 (λ e. omega arith)
+adds-one (short g) = refl
+
+pub counts-products : {ps : List (List ℕ)} {v : List ℕ} → Reports ps v → getD v 0 0 ≡ length ps
+counts-products none = refl
+counts-products (more {v = v} {x = x} s c r) = omega (arith, plus-at v x 0, adds-one c, counts-products r)
+
+pub too-many : {ps : List (List ℕ)} {rs : List Added} {y : List ℕ} → Lent empty ps rs y → 4096 < length ps → AllIn rs → ⊥
+too-many l h i = let r = has-report l .1 in omega (arith, counts-products r, ap (λ (z : List ℕ). getD z 0 0) (lent-report l i r), lent-within empty-within l i .products)
 
 -- ---- "If a list in two orders never meets 36, both give the same report"
 report-perm : {ps qs : List (List ℕ)} {v : List ℕ} → List·Permᴰ ps qs → Reports ps v → Reports qs v

@@ -35,18 +35,18 @@ recordsIn a l c = sumOf a (λ (i : ℕ). 1) c l
 abbrev pub bytesIn : List ℕ → List ℕ → ℕ → ℕ
 bytesIn a l c = sumOf a (size a) c l
 
--- "for MDRs": the starts of the records of class 8
+-- "for MDRs": the starts of the records of class 8, dummies too
 abbrev pub mdrs : List ℕ → List ℕ → List ℕ
 mdrs a [] = []
 mdrs a (i ∷ l) = cond (eqb (class a i) 8) (i ∷ mdrs a l) (mdrs a l)
 
--- the sum of f over each two that follow each other
+-- the sum of f over the pairs: each two that follow each other
 abbrev pub overPairs : (ℕ → ℕ → ℕ) → List ℕ → ℕ
 overPairs f [] = 0
 overPairs f (i ∷ []) = 0
 overPairs f (i ∷ j ∷ l) = f i j + overPairs f (j ∷ l)
 
--- "between one stop and the next start": of f, at the records that start at the bytes i and j
+-- "between one stop and the next start": f of the stop of the record at byte i and the start of that at byte j
 abbrev pub stopToStart : {A : Type 0} → (Time → Time → A) → List ℕ → ℕ → ℕ → A
 stopToStart f a i j = f (timeAt a (i + 14)) (timeAt a (j + 8))
 
@@ -62,7 +62,7 @@ undefinedPairs a l = overPairs (stopToStart undefinedBetween a) (mdrs a l)
 abbrev pub forClasses : (ℕ → ℕ) → List ℕ
 forClasses f = f 1 ∷ f 2 ∷ f 3 ∷ f 4 ∷ f 5 ∷ f 6 ∷ f 7 ∷ f 8 ∷ []
 
--- one product, accepted, of these records and bytes by class, gap, overlap and undefined pairs
+-- the report of one accepted product that has these records and bytes by class, this gap and overlap, and these undefined pairs
 abbrev pub totals : (ℕ → ℕ) → (ℕ → ℕ) → ℕ → ℕ → ℕ → List ℕ
 totals f g x y z = 1 ∷ (forClasses f ++ (forClasses g ++ (x ∷ y ∷ z ∷ 1 ∷ replicate 17 0)))
 

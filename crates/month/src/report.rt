@@ -12,13 +12,13 @@ ghost use Rattle.demands.specs.Product.{Meets};
 ghost use Rattle.month.specs.Report.{plus, Within, tallied, JoinIs, AddIs, MergeIs};
 ghost use Rattle.month.specs.Counting.{FitsIs};
 
-// Why nothing is added, and the report is as it was: 36.
+// `Refused` is 36: the report is as it was.
 pub enum Merged {
     Done,
     Refused(Refusal),
 }
 
-// `Tallied` has the product's own refusal, which is counted.
+// `Tallied` has the product's own refusal, which is counted; `Refused` is 36, as above.
 pub enum Added {
     Accepted,
     Tallied(Refusal),

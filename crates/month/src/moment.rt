@@ -1,0 +1,80 @@
+// The line of milliseconds, on which each of request Two's days has its extra second.
+ghost use mathlib.Core.Path.{_≡_};
+ghost use Prim.Native.Nat.{_/_, _%_, _≤_, _<_};
+ghost use Rattle.meter.specs.Time.{timeOf};
+ghost use Rattle.month.specs.Moment.{extraBefore, onLine};
+ghost use Rattle.month.specs.Counting.{extraOf, BetweenIs};
+
+// All 48 bits one.
+const UNDEFINED: u64 = 0xffff_ffff_ffff;
+
+// What a pair adds: milliseconds of gap, of overlap, and 1 where one of its times is undefined.
+pub(crate) struct Between {
+    pub gap: u64,
+    pub overlap: u64,
+    pub undefined: u64,
+}
+
+// The milliseconds that the extra second of `leap` adds before `day` begins.
+fn extra(leap: u64, day: u64) -> u64
+    ensures { λ r. ⌜ (r ≡ extraOf leap day) × (r ≤ 1000) ⌝ }
+{
+    if leap < day {
+        return 1000;
+    }
+    0
+}
+
+fn extra_before(day: u64) -> u64
+    ensures { λ r. ⌜ (r ≡ extraBefore day) × (r ≤ 5000) ⌝ }
+{
+    let first = extra(2191, day);
+    let second = extra(3287, day);
+    let third = extra(4564, day);
+    let fourth = extra(5659, day);
+    first + second + third + fourth + extra(6209, day)
+}
+
+// Where a time stands, by its 48 bits.
+fn on_line(bits: u64) -> u64
+    requires { ⌜ bits < 281474976710656 ⌝ }
+    ensures { λ r. ⌜ r ≡ onLine (bits / 0x1_0000_0000) (bits % 0x1_0000_0000) ⌝ }
+{
+    let day = bits / 0x1_0000_0000;
+    day * 86_400_000 + extra_before(day) + bits % 0x1_0000_0000
+}
+
+// One stop and the next start, by their 48 bits.
+pub(crate) fn time_between(stop: u64, start: u64) -> Between
+    requires { ⌜ (stop < 281474976710656) × (start < 281474976710656) ⌝ }
+    ensures { λ r. ⌜ BetweenIs (timeOf stop) (timeOf start) r ⌝ }
+{
+    if stop == UNDEFINED {
+        return Between {
+            gap: 0,
+            overlap: 0,
+            undefined: 1,
+        };
+    }
+    if start == UNDEFINED {
+        return Between {
+            gap: 0,
+            overlap: 0,
+            undefined: 1,
+        };
+    }
+    let from = on_line(stop);
+    let to = on_line(start);
+    if from <= to {
+        return Between {
+            gap: to - from,
+            overlap: 0,
+            undefined: 0,
+        };
+    }
+    Between {
+        gap: 0,
+        overlap: from - to,
+        undefined: 0,
+    }
+}

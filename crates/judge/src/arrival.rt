@@ -12,9 +12,9 @@ use crate::pointers::no_pointers;
 use crate::pointers::settle;
 use crate::run::run_of;
 use crate::stretch::Stretch;
-use crate::stretch::grown;
-use crate::stretch::longer;
+use crate::stretch::no_notes;
 use crate::stretch::no_stretch;
+use crate::stretch::noted;
 use calendar::Refusal;
 use mphr::faults::HeaderFault;
 ghost use mathlib.Core.Path.{_≡_};
@@ -177,8 +177,7 @@ fn walk_on(s: &[u8], totals: &[usize], held: &mut [[u32; 3]], d: usize) -> Walke
     let mut prev: u8 = 1;
     let mut w = no_pointers(d);
     let mut hold = no_hold(d);
-    let mut last = no_stretch(at);
-    let mut stretch = last;
+    let mut notes = no_notes(at);
     // Once: a const array is copied where it is named.
     let follow = record::follow::FOLLOW;
     while at < d {
@@ -186,6 +185,7 @@ fn walk_on(s: &[u8], totals: &[usize], held: &mut [[u32; 3]], d: usize) -> Walke
         w.due = hold.due;
         match turn(s, &follow, totals, &tally, d, count, at, prev, w) {
             Turned::Stop(answer) => {
+                let stretch = notes.longest;
                 return Walked { answer, stretch };
             }
             Turned::Go {
@@ -207,14 +207,14 @@ fn walk_on(s: &[u8], totals: &[usize], held: &mut [[u32; 3]], d: usize) -> Walke
                 );
                 tally[k] = n + run.count;
                 count += 1 + run.count;
-                last = grown(last, at, to - at, run.end, 1 + run.count);
-                stretch = longer(stretch, last);
+                notes = noted(notes, at, to - at, run.end, 1 + run.count);
                 at = run.end;
                 prev = class;
                 w = pointers;
             }
         }
     }
+    let stretch = notes.longest;
     Walked {
         answer: ended(s, totals, &tally, d, count, prev),
         stretch,

@@ -2,7 +2,7 @@
 ghost use mathlib.Core.Path.{_≡_};
 ghost use mathlib.Core.Logic.{_⊎_};
 ghost use Prim.Native.Nat.{_+_, _≤_};
-ghost use Rattle.judge.specs.Stretch.{noStretch, GrownIs};
+ghost use Rattle.judge.specs.Stretch.{noStretch, GrownIs, noNotes, NotedIs};
 
 // From byte `from` up to byte `end` are `count` records of the size.
 pub struct Stretch {
@@ -23,12 +23,12 @@ pub(crate) fn no_stretch(at: usize) -> Stretch
     }
 }
 
-// The stretch with the records of the size from its end, `at`, up to `end`: it goes on, or another begins.
-pub(crate) fn grown(last: Stretch, at: usize, size: usize, end: usize, count: usize) -> Stretch
+// The stretch with the records of the size from `at` up to `end`: it goes on where it ends there, or another begins.
+fn grown(last: Stretch, at: usize, size: usize, end: usize, count: usize) -> Stretch
     requires { ⌜ last .count + count ≤ 4294967295 ⌝ }
     ensures { λ r. ⌜ GrownIs last at size end count r ⌝ }
 {
-    if last.size != size {
+    if last.end != at || last.size != size {
         return Stretch {
             from: at,
             size,
@@ -45,11 +45,43 @@ pub(crate) fn grown(last: Stretch, at: usize, size: usize, end: usize, count: us
 }
 
 // The one with more records.
-pub(crate) fn longer(one: Stretch, other: Stretch) -> Stretch
+fn longer(one: Stretch, other: Stretch) -> Stretch
     ensures { λ r. ⌜ (r ≡ one) ⊎ (r ≡ other) ⌝ }
 {
     if one.count < other.count {
         return other;
     }
     one
+}
+
+// The stretch under way, and the one with the most records so far.
+pub struct Notes {
+    pub last: Stretch,
+    pub longest: Stretch,
+}
+
+pub(crate) fn no_notes(at: usize) -> Notes
+    ensures { λ r. ⌜ r ≡ noNotes at ⌝ }
+{
+    let none = no_stretch(at);
+    Notes {
+        last: none,
+        longest: none,
+    }
+}
+
+// The notes with the records of the size from `at` up to `end`. One alone is not noted: there is nothing to gain by it, and a walk in which no record is
+// like the last one has nothing to do here.
+pub(crate) fn noted(notes: Notes, at: usize, size: usize, end: usize, count: usize) -> Notes
+    requires { ⌜ notes .last .count + count ≤ 4294967295 ⌝ }
+    ensures { λ r. ⌜ NotedIs notes at size end count r ⌝ }
+{
+    if count < 2 {
+        return notes;
+    }
+    let before = notes.last;
+    let most = notes.longest;
+    let last = grown(before, at, size, end, count);
+    let longest = longer(most, last);
+    Notes { last, longest }
 }

@@ -6,7 +6,6 @@ use denote.Ref.{now}
 use borrow.Author.Needs.{needs}
 use mathlib.Core.List.{List}
 use mathlib.Core.Path.{_≡_, refl, sym, subst, _∙_, ap}
-use mathlib.Core.Logic.{_⊎_, inl, inr}
 use lib.ListN.{length, getD}
 use lib.Seq.{getD-set-same}
 use Rattle.record.specs.Follow.{firstAfter, mayFollow, Ruled}
@@ -15,8 +14,8 @@ use Rattle.judge.specs.Table.{Site, site, oneMore}
 use Rattle.judge.specs.Step.{Kept}
 use Rattle.judge.specs.Turning.{Turn, Ready, Gone, Walking, TurnedIs}
 use Rattle.judge.specs.Pending.{HoldIs}
-use Rattle.judge.specs.Stretch.{over, StretchIs, noStretch}
-use Rattle.judge.specs.declared.stretch.Stretch.{Stretch}
+use Rattle.judge.specs.Stretch.{over, NotesAre, noNotes}
+use Rattle.judge.specs.declared.stretch.Notes.{Notes}
 use Rattle.judge.specs.declared.pointers.Pointers.{Pointers}
 use Rattle.judge.specs.declared.arrival.Turned.{Turned}
 use Rattle.judge.specs.declared.arrival.Turned.the-variants.{Stop, Go}
@@ -29,11 +28,11 @@ use Rattle.judge.proofs.arrival.walk_on.Statement.{statement}
 use Rattle.judge.proofs.arrival.walk_on.Tie as tie
 
 abbrev Inv-loop : tie.InvT-loop
-Inv-loop s totals held₀ d tally₀ count₀ at₀ prev₀ w₀ hold₀ last₀ stretch₀ follow held tally count at prev w hold last stretch =
-    Turn s (site count at prev tally) × Kept s at w × Ruled follow × HoldIs s at held hold × (length held ≡ length held₀) × StretchIs s last × (last .end ≡ at) × (last .count ≤ at) × StretchIs s stretch
+Inv-loop s totals held₀ d tally₀ count₀ at₀ prev₀ w₀ hold₀ notes₀ follow held tally count at prev w hold notes =
+    Turn s (site count at prev tally) × Kept s at w × Ruled follow × HoldIs s at held hold × (length held ≡ length held₀) × NotesAre s notes × (notes .last .count ≤ at)
 
 abbrev μ-loop : tie.MeasureT-loop
-μ-loop s totals held₀ d tally₀ count₀ at₀ prev₀ w₀ hold₀ last₀ stretch₀ follow held tally count at prev w hold last stretch = d - at
+μ-loop s totals held₀ d tally₀ count₀ at₀ prev₀ w₀ hold₀ notes₀ follow held tally count at prev w hold notes = d - at
 
 abbrev St : tie.At-loop Inv-loop μ-loop → tie.Start Inv-loop μ-loop
 St c = c .before .before .before .before .before .before
@@ -112,30 +111,20 @@ counted c =
 abbrev R : tie.After-struct-known3 Inv-loop μ-loop → tie.After-run-of Inv-loop μ-loop
 R c = c .before .before .before
 
-abbrev G : tie.After-longer Inv-loop μ-loop → tie.After-struct-known3 Inv-loop μ-loop
-G c = c .before .before
-
-grows : (c : tie.After-longer Inv-loop μ-loop) → StretchIs (a (L (K (R (G c))))) (c .before .grown .result)
+grows : (c : tie.After-noted Inv-loop μ-loop) → NotesAre (a (L (K (R (c .before))))) (c .noted .result)
 grows c =
-    let f = R (G c) in
+    let f = R (c .before) in
     let k = K f in
     let l = L k in
     let g = gone k in
-    c .before .grown .ensures .even (a l) (l .loop .inv .5) (l .loop .inv .6) (turn-even (omega (arith, g .to-is)) (omega (arith, g .further)) (run-even (f .run-of .ensures (l .loop .inv .2))))
+    c .noted .ensures .even (a l) (l .loop .inv .5) (turn-even (omega (arith, g .to-is)) (omega (arith, g .further)) (run-even (f .run-of .ensures (l .loop .inv .2))))
 
 -- no record yet
-even-none : {a : List ℕ} {i : ℕ} {r : Stretch} → r ≡ noStretch i → StretchIs a r
-even-none e = rw e over
+none-yet : {a : List ℕ} {i : ℕ} {r : Notes} → r ≡ noNotes i → NotesAre a r
+none-yet e = rw e (record { last = over; longest = over })
 
-ends : {i : ℕ} {r : Stretch} → r ≡ noStretch i → r .end ≡ i
-ends e = ap (λ (r : Stretch). r .end) e
-
-counts : {i : ℕ} {r : Stretch} → r ≡ noStretch i → r .count ≡ 0
-counts e = ap (λ (r : Stretch). r .count) e
-
-one-of : {a : List ℕ} {r x y : Stretch} → (r ≡ x) ⊎ (r ≡ y) → StretchIs a x → StretchIs a y → StretchIs a r
-one-of (inl e) m n = rw e m
-one-of (inr e) m n = rw e n
+counts : {i : ℕ} {r : Notes} → r ≡ noNotes i → r .last .count ≡ 0
+counts e = ap (λ (r : Notes). r .last .count) e
 
 loop-holds : tie.Need-loop-holds Inv-loop μ-loop
 unfolding firstAfter mayFollow
@@ -147,10 +136,8 @@ loop-holds c =
       ruled _ tt,
       subst (HoldIs (now (s .args .s)) 3307 (now (s .args .held))) (sym (c .before .no-hold .ensures)) none-held,
       refl,
-      even-none (c .no-stretch .ensures),
-      ends (c .no-stretch .ensures),
-      omega (arith, counts (c .no-stretch .ensures)),
-      even-none (c .no-stretch .ensures),
+      none-yet (c .no-notes .ensures),
+      omega (arith, counts (c .no-notes .ensures)),
     )
 
 ease-requires : tie.Need-ease-requires Inv-loop μ-loop
@@ -165,7 +152,10 @@ turn-requires c κs =
     (record { d-is = y .d-is; small = y .small; room = e .before .before .loop-test .taken; totals = y .totals; turn = A e .loop .inv .0; kept = eased e }, A e .loop .inv .2)
 
 returns : tie.Need-returns Inv-loop μ-loop
-returns c = (told (c .before .before .before) (Stop (c .before .answer .given .0 .0)) (c .before .answer .given .1), A (T (c .before .before .before)) .loop .inv .8)
+returns c =
+    let w = c .before .before in
+    let t = w .before .before in
+    (told t (Stop (w .answer .given .0 .0)) (w .answer .given .1), A (T t) .loop .inv .5 .longest)
 
 cast-k : tie.Need-cast-k Inv-loop μ-loop
 cast-k c = record { fits = omega (arith, gone c .eight) }
@@ -206,45 +196,42 @@ add-count c = let r = c .before .before in record { fits = omega (arith, counted
 add-count-2 : tie.Need-add-count-2 Inv-loop μ-loop
 add-count-2 c = let r = c .before .before in let i = L (K r) .loop .inv .0 in record { fits = omega (arith, counted r, gone (K r) .further, i .counted, walking (L (K r)) .small) }
 
-sub-grown : tie.Need-sub-grown Inv-loop μ-loop
-sub-grown c = omega (arith, gone (K (c .before .before)) .further)
+sub-noted : tie.Need-sub-noted Inv-loop μ-loop
+sub-noted c = omega (arith, gone (K (c .before .before)) .further)
 
-add-grown : tie.Need-add-grown Inv-loop μ-loop
-add-grown c = record { fits = omega (arith, counted (R c), walking (L (K (R c))) .small) }
+add-noted : tie.Need-add-noted Inv-loop μ-loop
+add-noted c = record { fits = omega (arith, counted (R c), walking (L (K (R c))) .small) }
 
-grown-requires : tie.Need-grown-requires Inv-loop μ-loop
-grown-requires c κs = let r = R c in let i = L (K r) .loop .inv in omega (arith, i .7, counted r, i .0 .inside, walking (L (K r)))
+noted-requires : tie.Need-noted-requires Inv-loop μ-loop
+noted-requires c κs = let r = R c in let i = L (K r) .loop .inv in omega (arith, i .6, counted r, i .0 .inside, walking (L (K r)))
 
 loop-less : tie.Need-loop-less Inv-loop μ-loop
-loop-less c = let r = R (G c) in let k = K r in omega (arith, counted r .0, gone k .further, T (k .before .before .before) .before .before .loop-test .taken)
+loop-less c = let r = R (c .before) in let k = K r in omega (arith, counted r .0, gone k .further, T (k .before .before .before) .before .before .loop-test .taken)
 
 loop-again : tie.Need-loop-again Inv-loop μ-loop
 loop-again c =
-    let f = R (G c) in
+    let f = R (c .before) in
     let k = K f in
     let e = T (k .before .before .before) in
     let r = f .run-of .result in
     let i : L k .loop .count + (1 + r .count) ≡ L k .loop .count + 1 + r .count = omega arith in
-    let v = L k .loop .inv in
-    let g = grows c in (
+    let v = L k .loop .inv in (
       rw (i, ← run-tally (L k .loop .tally) (class k) (r .count) (below k)) (ran f .0),
       ran f .1,
       v .2,
       later {i = to k} (omega (arith, counted f .0)) (rw (gone k .to-is) (e .ease .ensures .hold)),
       e .ease .ensures .same ∙ v .4,
-      g,
-      c .before .grown .ensures .end-is,
-      omega (arith, c .before .grown .ensures .counted, v .7, counted f .0, gone k .further),
-      one-of (c .longer .ensures) (v .8) g,
+      grows c,
+      omega (arith, c .noted .ensures .counted, v .6, counted f .0, gone k .further),
     )
 
 ended-requires : tie.Need-ended-requires Inv-loop μ-loop
 ended-requires c κs =
-    let l = c .before .before in
-    over-at (walking l .d-is) (omega (arith, c .before .loop-test .left, l .loop .inv .0 .inside, walking l)) (walking l .totals) (l .loop .inv .0)
+    let l = c .before .before .before in
+    over-at (walking l .d-is) (omega (arith, c .before .before .loop-test .left, l .loop .inv .0 .inside, walking l)) (walking l .totals) (l .loop .inv .0)
 
 returns-2 : tie.Need-returns-2 Inv-loop μ-loop
-returns-2 c = (c .ended .ensures, c .before .before .before .loop .inv .8)
+returns-2 c = (c .ended .ensures, c .before .before .before .before .loop .inv .5 .longest)
 
 pub walk-on-spec : {M : Type 1} → statement M
 walk-on-spec =
@@ -277,10 +264,9 @@ walk-on-spec =
     array-write-tally
     add-count
     add-count-2
-    sub-grown
-    add-grown
-    grown-requires
-    (λ c κs. search needs)
+    sub-noted
+    add-noted
+    noted-requires
     loop-less
     loop-again
     (λ c. search needs)

@@ -13,7 +13,7 @@ use Rattle.judge.specs.Table.{table, Clean, Gives, Given, Judged}
 use Rattle.judge.specs.declared.arrival.Arrival.{Arrival}
 use Rattle.judge.specs.declared.arrival.Arrival.the-variants.{Waiting, Refused}
 use Rattle.finish.specs.Rows.{startOf}
-use Rattle.finish.specs.Finish.{Refuses, faulty, short, no-room, FinishedIs}
+use Rattle.finish.specs.Finish.{Refuses, Unfit, faulty, short, no-room, FinishedIs}
 use Rattle.finish.specs.declared.Finished.the-variants as F
 use Rattle.judge.proofs.WayLaws.{numbers}
 use Rattle.judge.proofs.Local.{lawful}
@@ -32,10 +32,15 @@ refused-number (faulty g) = omega (arith, given-number g)
 refused-number (short _ _) = omega arith
 refused-number (no-room _ _ _) = omega arith
 
+unfit-number : {a : List ℕ} {n p : ℕ} → Unfit a n p → (1 ≤ n) × (n ≤ 17)
+unfit-number (faulty g) = omega (arith, given-number g)
+unfit-number (short _ _) = omega arith
+
 pub demand-1 : Demand1
 demand-1 = record {
   arrival = λ a r g. given-number g;
   extent = λ a r g. given-number g;
+  verdict = λ a r g. unfit-number g;
   finished = λ a rows rows′ r f. let n = refused-number (f .0) in (n .0, n .1, f .1);
 }
 

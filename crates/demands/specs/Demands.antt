@@ -13,7 +13,7 @@ use Rattle.judge.specs.declared.arrival.Arrival.{Arrival}
 use Rattle.judge.specs.declared.arrival.Arrival.the-variants.{Waiting, Refused}
 use Rattle.judge.specs.declared.arrival.Extent.the-variants as X
 use Rattle.finish.specs.Rows.{rowsOf, startOf}
-use Rattle.finish.specs.Finish.{put, FinishedIs}
+use Rattle.finish.specs.Finish.{put, VerdictIs, FinishedIs}
 use Rattle.finish.specs.declared.Finished.{Finished}
 use Rattle.finish.specs.declared.Finished.the-variants as F
 use Rattle.demands.specs.Product.{size, Meets}
@@ -28,6 +28,7 @@ start a (suc k) = start a k + size a (start a k)
 pub record Demand1 : Type 0 where
   pub arrival : (a : List ℕ) (r : Refusal) → Judged a (Refused r) → (1 ≤ r .number) × (r .number ≤ 16)
   pub extent : (a : List ℕ) (r : Refusal) → ExtentIs a (X.Refused r) → (1 ≤ r .number) × (r .number ≤ 16)
+  pub verdict : (a : List ℕ) (r : Refusal) → VerdictIs a (F.Refused r) → (1 ≤ r .number) × (r .number ≤ 17)
   pub finished : (a : List ℕ) (rows rows′ : List (List ℕ)) (r : Refusal) → FinishedIs a rows (F.Refused r) rows′ → (1 ≤ r .number) × (r .number ≤ 18) × (rows′ ≡ rows)
 
 -- DEMAND 2. "A product is accepted exactly when it meets the format" (`Meets`, Product.antt), given room for its rows. "The index then holds those

@@ -16,9 +16,9 @@ use Rattle.meter.specs.declared.time.Time.{Time}
 use Rattle.text.proofs.Exact.{is-small}
 use Rattle.mphr.specs.Table.{total}
 use Rattle.mphr.proofs.LineLaws.{total-is, total-number}
-use Rattle.finish.specs.Fill.{Record, Ahead, none, more}
+use Rattle.finish.specs.Ahead.{Record, Ahead, none, more}
 use Rattle.finish.specs.Finish.{starts}
-use Rattle.finish.proofs.Filling.{all-ahead}
+use Rattle.finish.proofs.AheadLaws.{all-ahead}
 use Rattle.demands.specs.Product.{class, size, ofClass, Meets}
 use Rattle.demands.proofs.Accept.{complete-covered}
 use Rattle.demands.proofs.Accepted.{first-class, meets-complete, covers}

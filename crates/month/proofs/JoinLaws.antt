@@ -6,11 +6,7 @@ use mathlib.Core.List.{List, _∷_}
 use lib.ListN.{set, replicate}
 use Rattle.calendar.specs.Said.{refusing}
 use Rattle.calendar.specs.declared.Refusal.{Refusal}
-use Rattle.judge.specs.Extent.{ExtentIs}
-use Rattle.judge.specs.declared.arrival.Extent.{Extent}
-use Rattle.judge.specs.declared.arrival.Extent.the-variants as X
 use Rattle.demands.specs.Product.{Meets}
-use Rattle.demands.proofs.Demands.{demand-1}
 use Rattle.month.specs.Report.{contribution, tallied, Contributes, accepted, JoinIs, joined, past, MergeIs, merged, over}
 use Rattle.month.specs.declared.report.Added.{Added}
 use Rattle.month.specs.declared.report.Added.the-variants as A
@@ -32,11 +28,5 @@ merge-at {x} {y} {r = r} e m = subst (λ (l : List ℕ). MergeIs x y r l) (sym e
 pub tally-at : {x y : List ℕ} {said r : Added} (n k : ℕ) → k ≡ n → JoinIs x (set (set (replicate 38 0) 0 1) (20 + k) 1) said r y → JoinIs x (tallied n) said r y
 tally-at {x} {y} {said} {r} n k e j = subst (λ (m : ℕ). JoinIs x (tallied m) said r y) e j
 
-pub extent-at : (a : List ℕ) {x y : Extent} → x ≡ y → ExtentIs a x → ExtentIs a y
-extent-at a e c = subst (λ (z : Extent). ExtentIs a z) e c
-
 pub counts-at : {a v : List ℕ} (t : Meets a) → v ≡ contribution a (0 ∷ t .list) → Contributes a A.Accepted v
 counts-at {a} t e = subst (λ (l : List ℕ). Contributes a A.Accepted l) (sym e) (accepted t)
-
-pub refused-few : (a : List ℕ) (r : Refusal) → ExtentIs a (X.Refused r) → r .number ≤ 17
-refused-few a r g = omega (arith, demand-1 .extent a r g)

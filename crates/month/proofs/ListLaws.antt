@@ -7,7 +7,7 @@ use mathlib.Core.Path.{_≡_, refl, sym, ap, subst, _∙_}
 use mathlib.Core.List.{List, [], _∷_, _++_, List·Permᴰ, List·Permᴰ·nil, List·Permᴰ·cons, List·Permᴰ·swap, List·Permᴰ·trans}
 use lib.ListN.{length, getD, set, replicate, length-set}
 use lib.Seq.{getD-set-other}
-use Rattle.month.specs.Report.{contribution, tallied, Contributes, accepted, unfit, short, plus, empty, Reports, none, more, Within, JoinIs, joined, past, AddIs, MergeIs, merged, over, Lent, done, next, IsIn, AllIn}
+use Rattle.month.specs.Report.{contribution, tallied, Contributes, accepted, unfit, plus, empty, Reports, none, more, Within, JoinIs, joined, past, AddIs, MergeIs, merged, over, Lent, done, next, IsIn, AllIn}
 use Rattle.month.specs.declared.report.Added.{Added}
 use Rattle.month.specs.declared.report.Added.the-variants as A
 use Rattle.month.specs.declared.report.Merged.{Merged}
@@ -24,7 +24,6 @@ unique-report (more {v = v} {x = x} s c r) (more {v = w} {x = y} t d q) =
 share-length : {a v : List ℕ} {s : Added} → Contributes a s v → length v ≡ 38
 share-length (accepted t) = refl
 share-length (unfit r g) = length-set (set (replicate 38 0) 0 1) (20 + r .number) 1
-share-length (short g) = refl
 
 pub report-length : {ps : List (List ℕ)} {v : List ℕ} → Reports ps v → length v ≡ 38
 report-length none = refl
@@ -66,7 +65,6 @@ lent-report l i r = lent-adds refl l i r ∙ empty-plus _ (report-length r)
 said-in : {a v : List ℕ} {s : Added} → Contributes a s v → IsIn s
 said-in (accepted t) = tt
 said-in (unfit r g) = tt
-said-in (short g) = tt
 
 within-joins : {a x v y : List ℕ} {k r : Added} → Within (plus x v) → Contributes a k v → JoinIs x v k r y → IsIn r × (y ≡ plus x v)
 within-joins w c (joined u) = (said-in c, refl)
@@ -86,7 +84,6 @@ adds-one (accepted t) = refl
 adds-one (unfit r g) =
     let one : List ℕ = set (replicate 38 0) 0 1 in
     getD-set-other one (20 + r .number) 0 1 0 (λ e. omega arith)
-adds-one (short g) = refl
 
 pub counts-products : {ps : List (List ℕ)} {v : List ℕ} → Reports ps v → getD v 0 0 ≡ length ps
 counts-products none = refl

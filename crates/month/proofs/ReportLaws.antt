@@ -12,15 +12,11 @@ use lib.ListN.{length, getD, set, replicate, length-set}
 use lib.Seq.{getD-set-same, getD-set-other}
 use Rattle.calendar.specs.Said.{refusing}
 use Rattle.calendar.specs.declared.Refusal.{Refusal}
-use Rattle.judge.specs.Extent.{ExtentIs}
-use Rattle.judge.specs.declared.arrival.Extent.{Extent}
-use Rattle.judge.specs.declared.arrival.Extent.the-variants as X
 use Rattle.finish.specs.Rows.{startOf, row, ordinal, rowsAfter, rowsOf}
 use Rattle.demands.specs.Product.{size, Meets}
-use Rattle.demands.proofs.Accept.{complete-covered}
-use Rattle.demands.proofs.Accepted.{meets-complete, unique-extent, one-list}
+use Rattle.demands.proofs.Accepted.{one-list, meets-fit, one-refused}
 use Rattle.demands.proofs.Demands.{demand-1}
-use Rattle.month.specs.Report.{sumOf, recordsIn, bytesIn, mdrs, contribution, tallied, Contributes, accepted, unfit, short, plus, empty, Within, JoinIs, joined, past, AddIs, MergeIs, merged, over}
+use Rattle.month.specs.Report.{sumOf, recordsIn, bytesIn, mdrs, contribution, tallied, Contributes, accepted, unfit, plus, empty, Within, JoinIs, joined, past, AddIs, MergeIs, merged, over}
 use Rattle.month.specs.declared.report.Added.{Added}
 use Rattle.month.specs.declared.report.Added.the-variants as A
 use Rattle.month.specs.declared.report.Merged.{Merged}
@@ -28,46 +24,12 @@ use Rattle.month.specs.declared.report.Merged.the-variants as M
 use Rattle.month.proofs.PlusLaws.{none-at, plus-at, plus-comm, plus-assoc, plus-empty, empty-plus, within-left, within-right}
 
 -- ---- NO SECOND ANSWER FITS
--- a product has come whole, so the judge neither refuses it nor waits
-module _ {a : List ℕ} (t : Meets a) where
-  entire : (c : ℕ) × ExtentIs a (X.Entire c)
-  entire = let k = meets-complete t in let v = complete-covered k in (v .0, (k, v .1))
-
-  not-refused : (r : Refusal) → ExtentIs a (X.Refused r) → ⊥
-  not-refused r g = go (unique-extent a (X.Refused r) (X.Entire (entire .0)) g (entire .1))
-    where
-      go : X.Refused r ≡ X.Entire (entire .0) → ⊥
-      go e = let z : _≡_ {A = ℕ} 0 1 = cc in omega arith
-
-  not-part : ExtentIs a X.Part → ⊥
-  not-part g = go (unique-extent a X.Part (X.Entire (entire .0)) g (entire .1))
-    where
-      go : X.Part ≡ X.Entire (entire .0) → ⊥
-      go e = let z : _≡_ {A = ℕ} 0 1 = cc in omega arith
-
-not-both : {a : List ℕ} (r : Refusal) → ExtentIs a (X.Refused r) → ExtentIs a X.Part → ⊥
-not-both {a} r g h = go (unique-extent a (X.Refused r) X.Part g h)
-  where
-    go : X.Refused r ≡ X.Part → ⊥
-    go e = let z : _≡_ {A = ℕ} 0 1 = cc in omega arith
-
-one-refusal : {a : List ℕ} (r s : Refusal) → ExtentIs a (X.Refused r) → ExtentIs a (X.Refused s) → r ≡ s
-one-refusal {a} r s g h = go (unique-extent a (X.Refused r) (X.Refused s) g h)
-  where
-    go : X.Refused r ≡ X.Refused s → r ≡ s
-    go e = cc
-
 -- what a product adds, and what is answered of it
 pub unique-contribution : {a v w : List ℕ} {r s : Added} → Contributes a r v → Contributes a s w → (r ≡ s) × (v ≡ w)
 unique-contribution {a} (accepted t) (accepted u) = (refl, ap (λ (l : List ℕ). contribution a (0 ∷ l)) (one-list t u))
-unique-contribution (accepted t) (unfit r g) = absurd (not-refused t r g)
-unique-contribution (accepted t) (short g) = absurd (not-part t g)
-unique-contribution (unfit r g) (accepted t) = absurd (not-refused t r g)
-unique-contribution (unfit r g) (unfit s h) = let e = one-refusal r s g h in (ap A.Tallied e, ap (λ (q : Refusal). tallied (q .number)) e)
-unique-contribution (unfit r g) (short h) = absurd (not-both r g h)
-unique-contribution (short g) (accepted t) = absurd (not-part t g)
-unique-contribution (short g) (unfit r h) = absurd (not-both r h g)
-unique-contribution (short g) (short h) = (refl, refl)
+unique-contribution (accepted t) (unfit r g) = absurd (meets-fit t r g)
+unique-contribution (unfit r g) (accepted t) = absurd (meets-fit t r g)
+unique-contribution (unfit r g) (unfit s h) = let e = one-refused r s g h in (ap A.Tallied e, ap (λ (q : Refusal). tallied (q .number)) e)
 
 unique-join : {x v y z : List ℕ} {said r s : Added} → JoinIs x v said r y → JoinIs x v said s z → (r ≡ s) × (y ≡ z)
 unique-join (joined w) (joined u) = (refl, refl)
@@ -154,11 +116,8 @@ tallied-by : {a x v : List ℕ} {s : Added} (r : Refusal) → s ≡ A.Tallied r 
 tallied-by r e (accepted t) = absurd (let z : _≡_ {A = ℕ} 0 1 = cc in omega arith)
 tallied-by {a} {x} r e (unfit q g) =
     let d : q ≡ r = cc in
-    let n = demand-1 .extent a q g in
+    let n = demand-1 .verdict a q g in
     subst (λ (k : Refusal). OnlyTally x (plus x (tallied (q .number))) (k .number)) d (tallied-adds x (q .number) (n .0) (omega (arith, n .1)))
-tallied-by {a} {x} r e (short g) =
-    let d : refusing 17 (length a) ≡ r = cc in
-    subst (λ (k : Refusal). OnlyTally x (plus x (tallied 17)) (k .number)) d (tallied-adds x 17 (omega arith) (omega arith))
 
 pub refused-adds : {a x y : List ℕ} (r : Refusal) → AddIs a x (A.Tallied r) y → OnlyTally x y (r .number)
 refused-adds {a} {x} r p = go (A.Tallied r) refl (p .joins)
@@ -174,7 +133,6 @@ past-keeps {a} {x} r p = go (A.Refused r) refl (p .joins) (p .contributes)
     go : {v y : List ℕ} {k : Added} (s : Added) → s ≡ A.Refused r → JoinIs x v k s y → Contributes a k v → (y ≡ x) × (r ≡ refusing 36 0)
     go s e (joined w) (accepted t) = absurd (let z : _≡_ {A = ℕ} 0 1 = cc in omega arith)
     go s e (joined w) (unfit q g) = absurd (let z : _≡_ {A = ℕ} 0 1 = cc in omega arith)
-    go s e (joined w) (short g) = absurd (let z : _≡_ {A = ℕ} 0 1 = cc in omega arith)
     go s e (past d) k = (refl, cc)
 
 -- ---- "Totals are those of a definition over the accepted products' rows": a row has the start, the size and the class of its record

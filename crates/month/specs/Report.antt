@@ -13,8 +13,8 @@ use Rattle.calendar.specs.Said.{refusing}
 use Rattle.calendar.specs.declared.Refusal.{Refusal}
 use Rattle.meter.specs.Time.{timeAt}
 use Rattle.meter.specs.declared.time.Time.{Time}
-use Rattle.judge.specs.Extent.{ExtentIs}
-use Rattle.judge.specs.declared.arrival.Extent.the-variants as X
+use Rattle.finish.specs.Finish.{VerdictIs}
+use Rattle.finish.specs.declared.Finished.the-variants as F
 use Rattle.demands.specs.Product.{class, size, Meets}
 use Rattle.month.specs.Moment.{gapBetween, overlapBetween, undefinedBetween}
 use Rattle.month.specs.declared.report.Added.{Added}
@@ -77,8 +77,7 @@ tallied n = set (set (replicate 38 0) 0 1) (20 + n) 1
 -- WHAT A PRODUCT ADDS, whichever it is, and what is answered of it: its own refusal, 17 too where it is short
 pub data Contributes (a : List ℕ) : Added → List ℕ → Type 0 where
   accepted : (t : Meets a) → Contributes a A.Accepted (contribution a (0 ∷ t .list))
-  unfit : (r : Refusal) → ExtentIs a (X.Refused r) → Contributes a (A.Tallied r) (tallied (r .number))
-  short : ExtentIs a X.Part → Contributes a (A.Tallied (refusing 17 (length a))) (tallied 17)
+  unfit : (r : Refusal) → VerdictIs a (F.Refused r) → Contributes a (A.Tallied r) (tallied (r .number))
 
 -- ---- REPORTS
 -- place by place, without bound

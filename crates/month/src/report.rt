@@ -4,8 +4,8 @@
 use crate::bits::place;
 use crate::count::count_records;
 use calendar::Refusal;
-use judge::arrival::Extent;
-use judge::arrival::judge_extent;
+use finish::Finished;
+use finish::verdict;
 ghost use mathlib.Core.Path.{_≡_};
 ghost use Prim.Native.Nat.{_+_, _≤_};
 ghost use Rattle.demands.specs.Product.{Meets};
@@ -116,15 +116,8 @@ fn add_product(report: &mut [u64; 38], product: &[u8]) -> Added
 pub fn add(report: &mut [u64; 38], product: &[u8]) -> Added
     ensures { λ r. ⌜ AddIs (now (product .entry)) (now (report .entry)) r (now (report .exit)) ⌝ }
 {
-    match judge_extent(product) {
-        Extent::Refused(r) => tally(report, r),
-        Extent::Part => tally(
-            report,
-            Refusal {
-                number: 17,
-                place: product.len(),
-            },
-        ),
-        Extent::Entire { count: _ } => add_product(report, product),
+    match verdict(product) {
+        Finished::Refused(r) => tally(report, r),
+        Finished::Accepted { count: _ } => add_product(report, product),
     }
 }

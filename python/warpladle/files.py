@@ -39,7 +39,7 @@ def _opened(handle: int, size: int) -> mmap.mmap:
 def kept(path: PathLike, force: bool) -> None:
     """FileExistsError where a file stands there and is to be kept."""
     if not force and os.path.lexists(path):
-        raise FileExistsError(17, 'it is there already and is kept (force would replace it)', str(path))
+        raise FileExistsError(17, 'it is there already and is kept', str(path))
 
 
 @contextmanager

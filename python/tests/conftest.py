@@ -1,6 +1,7 @@
 """What the tests share: the vectors, and the sample files as tools/samples makes them."""
 import json
 import os
+import struct
 import subprocess
 import sys
 from pathlib import Path
@@ -11,7 +12,11 @@ ROOT = Path(__file__).resolve().parents[2]
 sys.path[:0] = [str(ROOT / 'python'), str(ROOT / 'tools')]
 
 import vectors  # noqa: E402
+from fields import FIELDS, NAMES, line_start  # noqa: E402
 from warpladle import Refused  # noqa: E402
+
+HEAD = 3307
+LARGEST = 2**31 - 1
 
 
 class Vectors:
@@ -73,3 +78,51 @@ def library():
 def environment(library):
     """The environment of a user's shell."""
     return {**os.environ, 'WARPLADLE_LIBRARY': str(library), 'PYTHONPATH': str(ROOT / 'python')}
+
+
+# ---- large products
+
+
+def mdr(size, milli):
+    return bytes([8, 9, 2, 1]) + struct.pack('>IHIHI', size, 6000, milli, 6000, milli + 300)
+
+
+def main_header(samples, size, mdrs):
+    head = bytearray((samples / 'example.eps').read_bytes()[:HEAD])
+    values = {'ACTUAL_PRODUCT_SIZE': size, 'TOTAL_RECORDS': 1 + mdrs, 'TOTAL_MDR': mdrs}
+    for name, value in values.items():
+        k = NAMES.index(name)
+        at, width = line_start(k) + 32, FIELDS[k][1]
+        head[at:at + width] = b'%*d' % (width, value)
+    return head
+
+
+@pytest.fixture(scope='session')
+def large(samples, tmp_path_factory):
+    """32 MiB: 100,000 MDRs of 335 bytes, and a last one with the rest."""
+    path = tmp_path_factory.mktemp('large') / '32mib.eps'
+    count, size = 100_000, 335
+    last = 32 * 2**20 - HEAD - count * size
+    with open(path, 'wb') as file:
+        file.write(main_header(samples, 32 * 2**20, count + 1))
+        for k in range(count):
+            file.write(mdr(size, 400 * k) + bytes(size - 20))
+        file.write(mdr(last, 400 * count) + bytes(last - 20))
+    return path
+
+
+@pytest.fixture(scope='session')
+def sparse(samples, tmp_path_factory):
+    """The largest product there is, of 2,147,483,647 bytes, with a small MDR between two of a gigabyte: a file with holes, of some kilobytes on the disk."""
+    path = tmp_path_factory.mktemp('sparse') / '2gb.eps'
+    sizes = [2**30, 120, LARGEST - HEAD - 2**30 - 120]
+    with open(path, 'wb') as file:
+        file.truncate(LARGEST)
+        file.write(main_header(samples, LARGEST, len(sizes)))
+        at = HEAD
+        for k, size in enumerate(sizes):
+            file.seek(at)
+            file.write(mdr(size, 1000 * k))
+            at += size
+    assert os.stat(path).st_blocks * 512 < 2**20
+    return path

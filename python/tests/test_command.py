@@ -105,7 +105,7 @@ def test_a_refusal_is_said_while_the_pipe_is_still_open(environment):
     with started(environment, 'watch') as watching:
         watching.stdin.write(b'x' * 20)
         watching.stdin.flush()
-        assert watching.stdout.readline().startswith(b'-: refused 1 0: ')
+        assert watching.stdout.readline().startswith(b'-: refused 1 0: expected a first header of class 1, group 0, subclass 0, size 3307, found class 120, ')
         assert watching.wait(10) == 1
 
 
@@ -127,12 +127,12 @@ def test_a_file_that_grows_while_it_is_watched(environment, rich, tmp_path, run)
 
 def test_a_growing_file_that_is_refused_is_said_at_once(environment, rich, tmp_path):
     path = tmp_path / 'grows.eps'
-    path.write_bytes(rich.read_bytes()[:3400])
+    path.write_bytes(rich.read_bytes()[:3422])
     with started(environment, 'watch', path) as watching, open(path, 'ab', buffering=0) as file:
         time.sleep(0.2)
         assert watching.poll() is None
         file.write(bytes(100))
-        assert watching.stdout.readline().decode().startswith(f'{path}: refused ')
+        assert watching.stdout.readline().decode().startswith(f'{path}: refused 7 3422: expected a class of 1 to 8 and a group of 0 to 13, 15 or 99, found class 0, ')
         assert watching.wait(10) == 1
 
 
@@ -203,7 +203,9 @@ def test_join(run, rich, tmp_path):
     assert sorted(os.listdir(tmp_path)) == ['0.eps', '1.eps', '2.eps', 'pass.eps']
     assert run('join', *names, '-o', 'pass.eps')[0] == 2
     status, out, _ = run('join', *names[::-1], '-o', 'back.eps')
-    assert status == 1 and 'refused 27 0: expected the second to start at 2016-06-05T00:00:25.000Z or later' in out
+    assert status == 1 and out == (
+        f'back.eps: refused 27 0: {names[2]} with {names[1]}: expected the second to start at 2016-06-05T00:00:25.000Z or later, '
+        'where the first stops, found 2016-06-05T00:00:08.000Z\n')
     assert run('join', names[0], '-o', 'one.eps')[0] == 2
     assert run('join', names[0], 'none', '-o', 'one.eps') == (2, '', 'warpladle: none: No such file or directory\n')
 
@@ -280,7 +282,7 @@ def test_a_report_of_many_files_by_many_jobs(run, given, tmp_path):
 
 def test_4097_products_are_36(run, rich):
     status, out, _ = run('report', *[rich] * 4097, '--jobs', '2')
-    assert status == 1 and 'refused 36 0: the report is full' in out
+    assert (status, out) == (1, 'report: refused 36 0: the report is full: 4,096 products, or a total of 64 bits\n')
 
 
 def test_a_progress_bar_on_a_terminal(environment, rich):

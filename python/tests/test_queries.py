@@ -88,6 +88,18 @@ def test_every_record_of_the_rich_sample(samples):
     assert said(product.record, 15) == ['refused', 19, 15]
 
 
+def test_any_buffer_is_a_product(samples):
+    import array
+    import numpy
+    data = (samples / 'rich.eps').read_bytes()
+    assert len(data) % 4 == 0
+    for buffer in (bytearray(data), memoryview(data), numpy.frombuffer(data, 'u1'), array.array('I', data)):
+        product = Product(buffer)
+        assert (product.size, product.verdict, product.field('INSTRUMENT_ID'), bytes(product)) == (4356, 15, 'MHSx', data)
+    with pytest.raises((BufferError, TypeError)):
+        Product(numpy.frombuffer(data, 'u1')[::2])
+
+
 def test_numbers_that_c_cannot_hold_are_python_s_own_error(samples):
     product = Product(samples / 'rich.eps')
     for k in (-1, 1 << 64):

@@ -21,6 +21,7 @@ from .refusal import Refused
 from .report import Report
 from .times import Moment, Time
 from .watch import Watch, record_arrival, replay
+from .words import of_product
 
 ACCEPTED, REFUSED, UNREADABLE = 0, 1, 2
 PIPE_CLOSED = 141  # as a shell says of a program that SIGPIPE ended
@@ -142,12 +143,12 @@ def made(args: argparse.Namespace, product: Product) -> int:
 
 def compare(args: argparse.Namespace) -> int:
     """Say whether one product is a cut of another."""
-    place = Product(args.cut).no_cut_of(Product(args.original))
+    held = Product(args.cut)
+    place = held.no_cut_of(Product(args.original))
     if place is None:
         say(args, f'yes: {args.cut} is a cut of {args.original}', {'is_cut': True})
         return ACCEPTED
-    size = os.path.getsize(args.cut)
-    where = {0: 'a line of the main header differs', size: 'a record of the original is missing'}.get(place, f'the record at {place} cannot be matched')
+    where = {0: 'a line of the main header differs', held.size: 'a record of the original is missing'}.get(place, f'the record at {place} cannot be matched')
     say(args, f'no: {args.cut} is no cut of {args.original}, at {place}: {where}', {'is_cut': False, 'place': place})
     return REFUSED
 
@@ -222,12 +223,17 @@ def watch(args: argparse.Namespace) -> int:
         try:
             watching.feed(part)
         except Refused as refused:
-            refusal = refused
+            refusal = refused if name == '-' or refused.number > 16 else quoted(refused, name, watching.fed)
             break
     status = refused_line(args, name, refusal) if refusal else arrived(args, name, watching)
     if args.record:
         write_beside(args.record, record_arrival(lengths, memoryview(mapped(name))[:watching.fed]), args.force)
     return status
+
+
+def quoted(refused: Refused, name: str, fed: int) -> Refused:
+    """A refusal of a watch with the words that the file's own bytes give."""
+    return Refused(refused.number, refused.place, of_product(memoryview(mapped(name))[:fed])(refused.number, refused.place))
 
 
 def arrived(args: argparse.Namespace, name: str, watching: Watch) -> int:
@@ -372,6 +378,11 @@ def parser() -> argparse.ArgumentParser:
     return whole
 
 
+def spoken_of(args: argparse.Namespace) -> str:
+    """The file that a refusal speaks of; its words say the others."""
+    return {join: lambda: args.out, report: lambda: 'report', compare: lambda: args.cut}.get(args.run, lambda: args.file)()
+
+
 def main(words: list[str] | None = None) -> int:
     """The command, with its words or those of the command line; the exit status."""
     reader = parser()
@@ -385,8 +396,7 @@ def main(words: list[str] | None = None) -> int:
         os.dup2(os.open(os.devnull, os.O_WRONLY), sys.stdout.fileno())  # so that the last flush is quiet too
         return PIPE_CLOSED
     except Refused as refused:
-        name = getattr(args, 'file', None) or ' '.join(getattr(args, 'files', [])) or args.original
-        return refused_line(args, name, refused)
+        return refused_line(args, spoken_of(args), refused)
     except FileExistsError as error:
         complain(told(error, '') + '; --force replaces it')
         return UNREADABLE

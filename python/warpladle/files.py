@@ -68,13 +68,12 @@ def _moved(part: str, path: PathLike, force: bool) -> None:
         os.replace(part, path)
         return
     try:
-        os.link(part, path)  # fails where a file came there meanwhile
+        os.link(part, path)  # which fails where a file came there meanwhile
+    except OSError:
+        kept(path, force)
+        os.replace(part, path)  # of a file system without links
+    else:
         os.unlink(part)
-    except FileExistsError:
-        kept(path, force)
-    except OSError:  # a file system without links
-        kept(path, force)
-        os.replace(part, path)
 
 
 def _mask() -> int:

@@ -41,8 +41,8 @@ class Product:
 
     def __init__(self, source: PathLike | Buffer) -> None:
         self.path: str | None = os.fspath(source) if isinstance(source, (str, os.PathLike)) else None
-        self.data: Any = mapped(self.path) if self.path is not None else source
-        self.size: int = memoryview(self.data).nbytes
+        self.data: Any = mapped(self.path) if self.path is not None else _bytes(source)
+        self.size: int = len(self.data)
 
     def __repr__(self) -> str:
         return f'Product({self.path!r})' if self.path is not None else f'Product(<{self.size} bytes>)'
@@ -168,6 +168,11 @@ class Product:
         return None if yes else place
 
 
+def _bytes(source: Any) -> Any:
+    """A buffer whose items are bytes."""
+    return source if isinstance(source, (bytes, bytearray, mmap.mmap)) else memoryview(source).cast('B')
+
+
 def _told(name: str, said: words.Words, *given: Any) -> int:
     """The bytes written into the room, which comes last."""
     return ask(name, *given, words=said)[0]
@@ -208,11 +213,22 @@ def join_all(products: list[Product], out: PathLike, force: bool = False) -> Pro
     Neighbours are joined in rounds, pairs and then pairs of pairs, which copies less than joining them one after the other and gives the same bytes, by
     the law that joining is associative (`join-three-same`); where one way is refused the other may not be.
     """
+    if len(products) < 2:
+        raise ValueError('a join has two products at least')
     folder = os.path.dirname(os.path.abspath(out))
-    while len(products) > 2:
-        pairs = [products[k:k + 2] for k in range(0, len(products), 2)]
-        products = [made(pair[0]._joined(pair[1]), folder=folder) if len(pair) == 2 else pair[0] for pair in pairs]
-    return products[0].join(products[1], out, force)
+    named = [(product.path or f'product {k}', product) for k, product in enumerate(products)]
+    while len(named) > 2:
+        pairs = [named[k:k + 2] for k in range(0, len(named), 2)]
+        named = [(f'{pair[0][0]} to {pair[1][0]}', _pair(*pair, folder=folder)) if len(pair) == 2 else pair[0] for pair in pairs]
+    return _pair(*named, out=out, force=force)
+
+
+def _pair(first: tuple[str, Product], second: tuple[str, Product], **place: Any) -> Product:
+    """Two joined, and where that is refused by which names."""
+    try:
+        return made(first[1]._joined(second[1]), **place)
+    except Refused as refused:
+        raise Refused(refused.number, refused.place, f'{first[0]} with {second[0]}: {refused.words}') from None
 
 
 def unlike(first: Product, second: Product) -> str:

@@ -36,7 +36,8 @@ class Watch(io.RawIOBase):
         number, place, count, _ = answer('watch_feed', self._state, part)
         self._noted(memoryview(part).cast('B'))
         if number:
-            raise Refused(number, place)
+            # the main header is kept, and what 1 to 5 speak of stands in it
+            raise Refused(number, place, words.of_product(self._head)(number, place) if number <= 5 else '')
         self.waiting = Waiting(count, place)
         return self.waiting
 

@@ -11,6 +11,7 @@ from __future__ import annotations
 
 import argparse
 import json
+import os
 from operator import add
 
 from distributed import Client, Future, LocalCluster
@@ -48,7 +49,7 @@ def main() -> None:
     args = parser.parse_args()
     here = None if args.scheduler else LocalCluster(n_workers=2, threads_per_worker=1, dashboard_address=None)
     with Client(args.scheduler or here) as client:
-        print(json.dumps(month(client, args.files).as_dict()))
+        print(json.dumps(month(client, list(map(os.path.abspath, args.files))).as_dict()))
     if here is not None:
         here.close()
 

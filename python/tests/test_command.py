@@ -264,7 +264,8 @@ def test_report(run, rich, short, samples):
     for file in files:
         report.add(file)
     values = json.loads(run('report', '--json', '--jobs', '3', *files)[1])
-    assert values['numbers'] == report.numbers and values['refused'] == {'17': 1}
+    assert values['numbers'] == report.numbers and values['refused'] == {'17': 1} and values['unreadable'] == []
+    assert json.loads(run('report', '--json', 'none')[1])['unreadable'] == ['none: No such file or directory']
     status, out, err = run('report', rich, 'none')
     assert status == 2 and out.startswith('products 1,') and err == 'warpladle: none: No such file or directory\n'
     assert run('report', rich, '--jobs', '0')[0] == 2
@@ -316,6 +317,23 @@ def test_a_pipe_closed_early(environment, tmp_path, given):
             listing.stdout.close()
             assert listing.wait(60) == 141
             assert listing.stderr.read() == b''
+
+
+def test_output_that_takes_nothing(environment, rich):
+    for words in (['check', rich], ['list', rich], ['fields', rich]):
+        done = subprocess.run([sys.executable, '-B', '-m', 'warpladle', *words], env=environment, stdout=open('/dev/full', 'w'), stderr=subprocess.PIPE)
+        assert done.returncode == 2 and done.stderr.decode().endswith('No space left on device\n') and b'Traceback' not in done.stderr
+    done = subprocess.run(f'{sys.executable} -B -m warpladle check {rich} >&-', shell=True, env=environment, stderr=subprocess.PIPE)
+    assert (done.returncode, done.stderr) == (2, b'warpladle: standard input and output must be open\n')
+
+
+def test_a_name_of_any_bytes(environment, rich, tmp_path):
+    name = os.fsencode(tmp_path) + b'/\xff\n.eps'
+    with open(name, 'wb') as file:
+        file.write(rich.read_bytes())
+    for words in ([], ['--json']):
+        done = subprocess.run([sys.executable, '-B', '-m', 'warpladle', 'check', *words, name], env=environment, capture_output=True)
+        assert (done.returncode, done.stderr) == (0, b'') and b'15' in done.stdout
 
 
 def test_no_library_is_a_sentence(run, rich, tmp_path):

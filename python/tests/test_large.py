@@ -9,6 +9,7 @@ from conftest import HEAD, LARGEST
 
 from warpladle import Product, Report, Time
 
+
 def test_32_mib(large):
     product = Product(large)
     assert product.verdict == 100_002 and product.extent == 100_002
@@ -53,7 +54,10 @@ def test_2_gb_costs_no_memory(sparse, environment):
         assert product.verdict == 4 and len(product.fields) == 72
         print(resource.getrusage(resource.RUSAGE_SELF).ru_maxrss - before)
     ''')
-    limit = lambda: resource.setrlimit(resource.RLIMIT_DATA, (2**30, 2**30))  # noqa: E731
+
+    def limit():
+        resource.setrlimit(resource.RLIMIT_DATA, (2**30, 2**30))
+
     done = subprocess.run([sys.executable, '-c', code, sparse], env=environment, capture_output=True, text=True, preexec_fn=limit)
     assert done.returncode == 0, done.stderr
     assert int(done.stdout) < 4096  # kilobytes

@@ -5,7 +5,7 @@ from datetime import date, datetime, timedelta, timezone
 import pytest
 from conftest import said
 
-from warpladle import Scaled, Time, date_of, day_number, is_date, read_scaled, read_time, reading, round_scaled, text_time, time_order, time_text
+from warpladle import Moment, Scaled, Time, date_of, day_number, is_date, read_scaled, read_time, reading, round_scaled, text_time, time_order, time_text
 from warpladle import write_scaled, write_time
 
 
@@ -68,6 +68,7 @@ def test_datetimes():
     assert Time.of(when.replace(tzinfo=None)) == Time(6000, 8250)
     assert Time.of(when.astimezone(timezone(timedelta(hours=-9)))) == Time(6000, 8250)
     assert Time.of(Time(1, 2)) == Time(1, 2)
+    assert Time.of(Moment(2016, 12, 31, 23, 59, 60, 5)) == Time(6209, 86400005)
     with pytest.raises(ValueError):
         Time.of(when.replace(microsecond=250001))
     with pytest.raises(ValueError):

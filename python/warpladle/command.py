@@ -1,7 +1,8 @@
-"""The command `warpladle`. Exit status: 0 all is accepted, or yes; 1 something is refused, or no; 2 a file cannot be read or written, or bad usage."""
+"""The command `warpladle`."""
 from __future__ import annotations
 
 import argparse
+import io
 import json
 import os
 import sys
@@ -23,6 +24,7 @@ from .times import Moment, Time
 from .watch import Watch, record_arrival, replay
 from .words import of_product
 
+STATUS = 'Exit status: 0 all is accepted, or yes; 1 something is refused, or no; 2 a file cannot be read or written, or bad usage.'
 ACCEPTED, REFUSED, UNREADABLE = 0, 1, 2
 PIPE_CLOSED = 141  # as a shell says of a program that SIGPIPE ended
 PART = 1 << 16
@@ -38,9 +40,17 @@ def told(error: OSError, name: str) -> str:
     return f'{error.filename or name}: {error.strerror or error}'
 
 
+def silence() -> None:
+    """Nothing more goes to standard output, which takes nothing more; so that the last flush is quiet too."""
+    os.dup2(os.open(os.devnull, os.O_WRONLY), sys.stdout.fileno())
+
+
 def complain(text: str) -> None:
     """A line on standard error."""
-    sys.stdout.flush()
+    try:
+        sys.stdout.flush()
+    except OSError:
+        silence()
     print(f'warpladle: {text}', file=sys.stderr)
 
 
@@ -286,7 +296,7 @@ def report(args: argparse.Namespace) -> int:
         complain(trouble)
         status = UNREADABLE
     if args.json:
-        say(args, '', {**total.as_dict(), 'numbers': total.numbers})
+        say(args, '', {**total.as_dict(), 'numbers': total.numbers, 'unreadable': troubles})
     else:
         sys.stdout.write(report_text(total))
     if args.picture:
@@ -332,7 +342,7 @@ def two_or_more(parser: argparse.ArgumentParser, args: argparse.Namespace) -> No
 
 def parser() -> argparse.ArgumentParser:
     """Every subcommand with what it takes."""
-    whole = argparse.ArgumentParser(prog='warpladle', description='EPS native products, judged, listed, cut and joined by a proved library.', epilog=__doc__.split('. ', 1)[1])
+    whole = argparse.ArgumentParser(prog='warpladle', description='EPS native products, judged, listed, cut and joined by a proved library.', epilog=STATUS)
     commands = whole.add_subparsers(dest='command', required=True, metavar='COMMAND')
 
     def command(name: str, run: Callable[[argparse.Namespace], int], *options: str) -> argparse.ArgumentParser:
@@ -388,12 +398,17 @@ def main(words: list[str] | None = None) -> int:
     reader = parser()
     args = reader.parse_args(words)
     two_or_more(reader, args)
+    if sys.stdin is None or sys.stdout is None:
+        print('warpladle: standard input and output must be open', file=sys.stderr)
+        return UNREADABLE
+    if isinstance(sys.stdout, io.TextIOWrapper):
+        sys.stdout.reconfigure(errors='backslashreplace')  # names of files may have any bytes
     try:
         status = args.run(args)
         sys.stdout.flush()
         return status
     except BrokenPipeError:
-        os.dup2(os.open(os.devnull, os.O_WRONLY), sys.stdout.fileno())  # so that the last flush is quiet too
+        silence()
         return PIPE_CLOSED
     except Refused as refused:
         return refused_line(args, spoken_of(args), refused)
@@ -401,7 +416,7 @@ def main(words: list[str] | None = None) -> int:
         complain(told(error, '') + '; --force replaces it')
         return UNREADABLE
     except OSError as error:
-        complain(told(error, getattr(args, 'file', None) or ''))
+        complain(told(error, getattr(args, 'file', None) or 'standard output'))
         return UNREADABLE
     except (LibraryMissing, NoMatplotlib) as error:
         complain(str(error))

@@ -9,7 +9,7 @@ from collections.abc import Iterator
 from contextlib import contextmanager
 from typing import Union
 
-PathLike = Union[str, os.PathLike]
+PathLike = Union[str, 'os.PathLike[str]']
 Buffer = Union[bytes, bytearray, memoryview, mmap.mmap]
 
 

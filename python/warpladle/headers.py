@@ -27,14 +27,15 @@ class Record(NamedTuple):
 
     def as_dict(self) -> dict[str, int | str | None]:
         """By name, with its times in ISO 8601."""
-        numbers = dict(zip(('start', 'class', 'group', 'subclass', 'version', 'size'), self))
-        times = {name: time and time.isoformat() for name, time in (('start_time', self.start_time), ('stop_time', self.stop_time))}
-        return {**numbers, **times}
+        start, stop = (None if time is None else time.isoformat() for time in (self.start_time, self.stop_time))
+        return {'start': self.start, 'class': self.class_, 'group': self.group, 'subclass': self.subclass, 'version': self.version, 'size': self.size,
+                'start_time': start, 'stop_time': stop}
 
 
 def record_of(values: tuple[int, ...]) -> Record:
     """Of the values of an answer."""
-    return Record(*values[:6], time_of(*values[6:9]), time_of(*values[9:12]))
+    start, class_, group, subclass, version, size = values[:6]
+    return Record(start, class_, group, subclass, version, size, time_of(*values[6:9]), time_of(*values[9:12]))
 
 
 def read_header(data: bytes, at: int = 0) -> Record:

@@ -12,7 +12,7 @@ from typing import TYPE_CHECKING, Any, NamedTuple, Union
 from . import words
 from .files import Buffer, PathLike, beside, mapped, room_of
 from .headers import COUNT, SIGNED, TEXT, UNSIGNED, Field, Record, all_fields, field, field_number, read_header, record_of
-from .library import answer, ask, signed
+from .library import ask, signed
 from .refusal import Refused
 from .times import Moment, Time, TimeLike, flat, moment_of
 

@@ -8,7 +8,7 @@ from typing import Any
 from . import words
 from .files import Buffer, PathLike
 from .headers import CLASSES
-from .library import answer, ask
+from .library import ask
 from .product import Product
 from .refusal import Refused
 
@@ -43,10 +43,12 @@ class Report:
         return both
 
     def __radd__(self, other: Any) -> Report:
-        return self if other == 0 else NotImplemented  # sum() starts with 0
+        if other != 0:  # with which sum() starts
+            return NotImplemented
+        return self
 
     def __eq__(self, other: object) -> bool:
-        return self.numbers == other.numbers if isinstance(other, Report) else NotImplemented
+        return isinstance(other, Report) and self.numbers == other.numbers
 
     __hash__ = None  # type: ignore[assignment]
 

@@ -19,10 +19,10 @@ class Time(NamedTuple):
 
     @staticmethod
     def of(when: TimeLike) -> Time:
-        """The time of a `datetime` (UTC where it has no zone), of a text in ISO 8601 (UTC) or of a `Time`."""
+        """The time of a `datetime` (UTC where it has no zone), a `Moment`, a text in ISO 8601 (UTC) or a `Time`; 21."""
         if isinstance(when, Time):
             return when
-        text = _datetime_text(when) if isinstance(when, datetime) else _iso_text(when)
+        text = _iso_text(when) if isinstance(when, str) else '%04d%02d%02d%02d%02d%02d%03dZ' % moment_numbers(when)[1:]
         number, place, defined, day, milli, _ = answer('text_time', text.encode(), 0)
         if number:
             raise Refused(number, place, f'expected a time of 2000-01-01 to 2179-06-06, found {when}')
@@ -35,12 +35,7 @@ class Time(NamedTuple):
 
     def datetime(self) -> datetime:
         """As Python's, in UTC; a ValueError in a leap second, which Python's has no place for."""
-        text = time_text(self)
-        parts = [int(text[a:b]) for a, b in ((0, 4), (4, 6), (6, 8), (8, 10), (10, 12), (12, 14))]
-        return datetime(*parts, 1000 * int(text[14:17]), tzinfo=timezone.utc)
-
-
-TimeLike = Union[Time, datetime, str]
+        return datetime.fromisoformat(self.isoformat()[:-1]).replace(tzinfo=timezone.utc)
 
 
 class Moment(NamedTuple):
@@ -59,12 +54,7 @@ class Moment(NamedTuple):
         return '%04d-%02d-%02dT%02d:%02d:%02d.%03dZ' % self
 
 
-def _datetime_text(when: datetime) -> str:
-    if when.tzinfo is not None:
-        when = when.astimezone(timezone.utc)
-    if when.microsecond % 1000:
-        raise ValueError(f'{when.isoformat()} is between two milliseconds')
-    return '%04d%02d%02d%02d%02d%02d%03dZ' % (*when.timetuple()[:6], when.microsecond // 1000)
+TimeLike = Union[Time, Moment, datetime, str]
 
 
 def _iso_text(when: str) -> str:
@@ -89,7 +79,8 @@ def moment_of(numbers: tuple[int, ...]) -> datetime | Moment:
     moment = Moment(*numbers)
     if moment.year == 0 or moment.second == 60:
         return moment
-    return datetime(*moment[:6], 1000 * moment.milli, tzinfo=timezone.utc)
+    year, month, day, hour, minute, second, milli = moment
+    return datetime(year, month, day, hour, minute, second, 1000 * milli, timezone.utc)
 
 
 def moment_numbers(moment: datetime | Moment | None) -> tuple[int, ...]:

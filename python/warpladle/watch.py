@@ -14,9 +14,9 @@ from .refusal import Refused
 
 
 class Waiting(NamedTuple):
-    """What has come so far is sound: `count` whole records, the last of which ends at `end`."""
+    """What has come so far is sound: so many whole records, the last of which ends at `end`."""
 
-    count: int
+    records: int
     end: int
 
 
@@ -48,7 +48,7 @@ class Watch(io.RawIOBase):
     @property
     def declared(self) -> int | None:
         """The size that the product declares, once its main header has come and is sound."""
-        return words.declared(self._head) if self.waiting.count else None
+        return words.declared(self._head) if self.waiting.records else None
 
     @property
     def whole(self) -> bool:

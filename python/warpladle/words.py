@@ -45,7 +45,7 @@ def class_name(number: int) -> str:
     return CLASSES[number] if 1 <= number <= 8 else f'class {number}'
 
 
-def _header(data: Any, start: int) -> tuple[int, int, int, int, int]:
+def _header(data: Any, start: int) -> tuple[int, ...]:
     return struct.unpack_from('>BBBBI', data, start)
 
 
@@ -60,7 +60,7 @@ def _times(data: Any, start: int) -> str:
     return f'start {shown[0]}, stop {shown[1]}'
 
 
-def _target(data: Any, start: int) -> tuple[int, int, int, int]:
+def _target(data: Any, start: int) -> tuple[int, ...]:
     return struct.unpack_from('>BBBI', data, start + 20)
 
 

@@ -38,8 +38,8 @@ _give_back.argtypes = [ctypes.POINTER(_View)]
 _give_back.restype = None
 
 TO_READ, TO_WRITE = 0, 1
-# a length of 0 may come with any address but NULL
-_NOTHING = ctypes.create_string_buffer(8)
+# a length of 0 may come with any address but NULL, aligned as its items are
+_NOTHING = ctypes.c_uint64()
 
 
 class _Lent:

@@ -129,7 +129,7 @@ def test_a_watch_is_a_file_to_write_to(samples):
         assert watch.waiting == Waiting(15, 4356) and watch.whole and watch.declared == 4356
     with pytest.raises(Refused) as caught:
         shutil.copyfileobj(BytesIO(data + b'!'), Watch(), 1000)
-    assert (caught.value.number, caught.value.place) == (16, 4356)
+    assert str(caught.value) == 'refused 16 4356: expected 4356 bytes, as declared, found 4357 so far'
 
 
 def test_a_watch_is_not_whole_before_its_last_byte(samples):

@@ -36,10 +36,15 @@ class Watch(io.RawIOBase):
         number, place, count, _ = answer('watch_feed', self._state, part)
         self._noted(memoryview(part).cast('B'))
         if number:
-            # the main header is kept, and what 1 to 5 speak of stands in it
-            raise Refused(number, place, words.of_product(self._head)(number, place) if number <= 5 else '')
+            raise Refused(number, place, self._words(number, place))
         self.waiting = Waiting(count, place)
         return self.waiting
+
+    def _words(self, number: int, place: int) -> str:
+        """With what was found where that is still known: the main header is kept, the records are not."""
+        if number == 16:
+            return f'expected {place} bytes, as declared, found {self.fed} so far'
+        return words.of_product(self._head)(number, place) if number <= 6 else ''
 
     def _noted(self, part: memoryview) -> None:
         self.fed += len(part)

@@ -171,6 +171,24 @@ def umask():
     return mask
 
 
+def test_pipes_from_end_to_end(run, rich, tmp_path, environment):
+    whole, town = rich.read_bytes(), bytes(Product(rich).cut(*TOWN))
+    done = subprocess.run([sys.executable, '-B', '-m', 'warpladle', 'cut', '-', *TOWN, '-o', '-'], input=whole, env=environment, capture_output=True)
+    assert (done.returncode, done.stdout, done.stderr) == (0, town, b'')
+    assert run('compare', rich, '-', stdin=town)[0] == 0
+    names = three_cuts(rich, tmp_path)
+    done = subprocess.run([sys.executable, '-B', '-m', 'warpladle', 'join', *names, '-o', '-'], env=environment, capture_output=True)
+    a, b, c = map(Product, names)
+    assert (done.returncode, done.stdout) == (0, bytes(a.join(b).join(c)))
+    status, out, err = run('cut', '-', *TOWN, '-o', '-', stdin=whole[:-1])
+    assert (status, out) == (1, '') and err.startswith('warpladle: -: refused 17 4355: ')
+    os.mkfifo(tmp_path / 'pipe')
+    with started(environment, 'watch', tmp_path / 'pipe') as watching:
+        (tmp_path / 'pipe').write_bytes(whole)
+        assert watching.stdout.read().decode() == f'{tmp_path}/pipe: whole, 15 records, 4356 bytes\n'
+        assert watching.wait(10) == 0
+
+
 def test_a_cut_that_cannot_be_written_leaves_nothing(run, rich, short, tmp_path):
     assert run('cut', short, *TOWN, '-o', 'town.eps')[0] == 1
     status, out, err = run('cut', rich, *TOWN, '-o', 'no/folder/town.eps')

@@ -19,8 +19,8 @@ def damaged(rng, data):
 
 def test_whatever_the_bytes_are(given, samples):
     rng = random.Random(20261116)
-    whole = [(samples / 'rich.eps').read_bytes()] + [given.product(case) for case in given.lines('requests/six.jsonl')[:40]
-                                                    if case['answer'][0] == 'rows' and 'pieces' not in case]
+    cases = [case for case in given.lines('requests/six.jsonl')[:40] if case['answer'][0] == 'rows' and 'pieces' not in case]
+    whole = [(samples / 'rich.eps').read_bytes(), *map(given.product, cases)]
     seen = set()
     for _ in range(10000):
         data = damaged(rng, rng.choice(whole))

@@ -55,8 +55,11 @@ def test_fields_hold_what_stands_in_the_bytes(given, samples):
                 assert value == raw
             elif kind_of(k) in (1, 2, 3):
                 assert value == (None if set(raw) == {'x'} else int(raw))
-            elif isinstance(value, datetime):
-                assert value.strftime('%Y%m%d%H%M%S') == raw[:14].rjust(14, '0') or value.year < 1000
+            elif value is None:
+                assert set(raw) <= {'x', 'Z'}
+            else:
+                text = value.isoformat(timespec='milliseconds') if isinstance(value, datetime) else value.isoformat()
+                assert ''.join(filter(str.isdigit, text[:23])) == raw[:-1].ljust(17, '0')
             checked += 1
     assert checked > 3000
 

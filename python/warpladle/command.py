@@ -32,7 +32,7 @@ PART = 1 << 16
 
 def opened(name: str) -> Product:
     """The product of a file, or of standard input where the name is `-`."""
-    return Product(sys.stdin.buffer.read()) if name == '-' else Product(name)
+    return Product(sys.stdin.buffer.read() if name == '-' else name)
 
 
 def told(error: OSError, name: str) -> str:
@@ -60,7 +60,10 @@ def say(args: argparse.Namespace, text: str, values: dict[str, Any]) -> None:
 
 
 def refused_line(args: argparse.Namespace, name: str, refused: Refused) -> int:
-    """That a file is refused."""
+    """That a file is refused; on standard error where a product was to go to standard output."""
+    if getattr(args, 'out', None) == '-':
+        complain(f'{name}: {refused}')
+        return REFUSED
     say(args, f'{name}: {refused}', {'file': name, 'accepted': False, 'refusal': refused.as_dict()})
     return REFUSED
 
@@ -134,18 +137,27 @@ def fields(args: argparse.Namespace) -> int:
 
 def cut(args: argparse.Namespace) -> int:
     """Cut a product to a window of time."""
-    kept(args.out, args.force)
-    return made(args, opened(args.file).cut(args.first, args.last, args.out, args.force))
+    return made(args, opened(args.file).cut(args.first, args.last, place(args), args.force))
 
 
 def join(args: argparse.Namespace) -> int:
     """Join products that follow each other."""
+    return made(args, join_all([opened(name) for name in args.files], place(args), args.force))
+
+
+def place(args: argparse.Namespace) -> str | None:
+    """Where a new product is to be written, which is known to be free before work begins; None for standard output."""
+    if args.out == '-':
+        return None
     kept(args.out, args.force)
-    return made(args, join_all([Product(name) for name in args.files], args.out, args.force))
+    return args.out
 
 
 def made(args: argparse.Namespace, product: Product) -> int:
-    """What was written."""
+    """What was written; on standard output the product itself."""
+    if args.out == '-':
+        sys.stdout.buffer.write(product.data)
+        return ACCEPTED
     count = product.verdict
     say(args, f'{args.out}: {count} records, {product.size} bytes', {'file': args.out, 'records': count, 'bytes': product.size})
     return ACCEPTED
@@ -153,19 +165,19 @@ def made(args: argparse.Namespace, product: Product) -> int:
 
 def compare(args: argparse.Namespace) -> int:
     """Say whether one product is a cut of another."""
-    held = Product(args.cut)
-    place = held.no_cut_of(Product(args.original))
-    if place is None:
+    held = opened(args.cut)
+    at = held.no_cut_of(opened(args.original))
+    if at is None:
         say(args, f'yes: {args.cut} is a cut of {args.original}', {'is_cut': True})
         return ACCEPTED
-    where = {0: 'a line of the main header differs', held.size: 'a record of the original is missing'}.get(place, f'the record at {place} cannot be matched')
-    say(args, f'no: {args.cut} is no cut of {args.original}, at {place}: {where}', {'is_cut': False, 'place': place})
+    where = {0: 'a line of the main header differs', held.size: 'a record of the original is missing'}.get(at, f'the record at {at} cannot be matched')
+    say(args, f'no: {args.cut} is no cut of {args.original}, at {at}: {where}', {'is_cut': False, 'place': at})
     return REFUSED
 
 
 def uth(args: argparse.Namespace) -> int:
     """Show the blocks of a humidity file."""
-    blocks = [[line, column, *(None if value != value else value for value in values)] for line, column, *values in read_uth(args.file).tolist()]
+    blocks = [[line, column, *(None if value != value else value for value in values)] for line, column, *values in read_uth(opened(args.file).data).tolist()]
     if args.json:
         say(args, '', {'file': args.file, 'blocks': [dict(zip(('line', 'column', 'uth', 'csr'), block)) for block in blocks]})
     else:
@@ -176,7 +188,7 @@ def uth(args: argparse.Namespace) -> int:
 
 def replay_(args: argparse.Namespace) -> int:
     """Replay the record of an arrival."""
-    part = replay(mapped(args.record), Product(args.file))
+    part = replay(opened(args.record).data, opened(args.file))
     say(args, 'none: every answer is as recorded' if part is None else f'part {part}: its answer is not as recorded', {'part': part})
     return ACCEPTED if part is None else REFUSED
 
@@ -199,6 +211,9 @@ def suffix_of(path: PathLike) -> str:
 def grown(name: str, wait: float, whole: Callable[[], bool]) -> Iterator[bytes]:
     """The parts of a file that grows, until all of it has come or nothing has for so many seconds."""
     with open(name, 'rb', buffering=0) as file:
+        if not os.path.isfile(name):  # a pipe by its name, which ends where its writer closes it
+            yield from iter(lambda: file.read(PART), b'')
+            return
         last = time.monotonic()
         while not whole() or os.fstat(file.fileno()).st_size > file.tell():
             part = file.read(PART)
@@ -222,7 +237,7 @@ def watch(args: argparse.Namespace) -> int:
     """Watch a product arrive."""
     name = args.file or '-'
     if args.record:
-        if name == '-':
+        if not os.path.isfile(name):
             complain('a record is made of the file that was watched: name one')
             return UNREADABLE
         kept(args.record, args.force)
@@ -351,7 +366,7 @@ def parser() -> argparse.ArgumentParser:
         if 'json' in options:
             sub.add_argument('--json', action='store_true', help='for a program to read')
         if 'out' in options:
-            sub.add_argument('-o', '--out', metavar='OUT', required=True, help='the file to write')
+            sub.add_argument('-o', '--out', metavar='OUT', required=True, help='the file to write, or - for standard output')
         if 'force' in options or 'out' in options:
             sub.add_argument('--force', action='store_true', help='replace an existing file')
         return sub

@@ -207,15 +207,15 @@ def made(write: Callable[[Any], int], out: PathLike | None = None, force: bool =
     return Product(out)
 
 
-def join_all(products: list[Product], out: PathLike, force: bool = False) -> Product:
-    """The products, which follow each other, joined into a new file.
+def join_all(products: list[Product], out: PathLike | None = None, force: bool = False) -> Product:
+    """The products, which follow each other, as one; in memory, or in a new file where `out` names one.
 
     Neighbours are joined in rounds, pairs and then pairs of pairs, which copies less than joining them one after the other and gives the same bytes, by
     the law that joining is associative (`join-three-same`); where one way is refused the other may not be.
     """
     if len(products) < 2:
         raise ValueError('a join has two products at least')
-    folder = os.path.dirname(os.path.abspath(out))
+    folder = None if out is None else os.path.dirname(os.path.abspath(out))
     named = [(product.path or f'product {k}', product) for k, product in enumerate(products)]
     while len(named) > 2:
         pairs = [named[k:k + 2] for k in range(0, len(named), 2)]

@@ -149,6 +149,7 @@ def test_a_file_that_stops_growing_or_is_cut_short(environment, rich, tmp_path, 
 
 def test_watch_and_record_need_a_file(run):
     assert run('watch', '--record', 'out') == (2, '', 'warpladle: a record is made of the file that was watched: name one\n')
+    assert run('watch', 'none', '--record', 'out') == (2, '', 'warpladle: none: No such file or directory\n')
 
 
 def test_cut(run, rich, tmp_path):
@@ -183,6 +184,10 @@ def test_pipes_from_end_to_end(run, rich, tmp_path, environment):
     status, out, err = run('cut', '-', *TOWN, '-o', '-', stdin=whole[:-1])
     assert (status, out) == (1, '') and err.startswith('warpladle: -: refused 17 4355: ')
     os.mkfifo(tmp_path / 'pipe')
+    with started(environment, 'watch', tmp_path / 'pipe') as watching:
+        (tmp_path / 'pipe').write_bytes(b'x' * 20)
+        assert watching.stdout.read().decode().startswith(f'{tmp_path}/pipe: refused 1 0: ')
+        assert watching.wait(10) == 1
     with started(environment, 'watch', tmp_path / 'pipe') as watching:
         (tmp_path / 'pipe').write_bytes(whole)
         assert watching.stdout.read().decode() == f'{tmp_path}/pipe: whole, 15 records, 4356 bytes\n'

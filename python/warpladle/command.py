@@ -208,10 +208,15 @@ def suffix_of(path: PathLike) -> str:
 # ---- the watch
 
 
+def is_pipe(name: str) -> bool:
+    """Whether it is there and no file."""
+    return os.path.exists(name) and not os.path.isfile(name)
+
+
 def grown(name: str, wait: float, whole: Callable[[], bool]) -> Iterator[bytes]:
     """The parts of a file that grows, until all of it has come or nothing has for so many seconds."""
     with open(name, 'rb', buffering=0) as file:
-        if not os.path.isfile(name):  # a pipe by its name, which ends where its writer closes it
+        if is_pipe(name):  # which ends where its writer closes it
             yield from iter(lambda: file.read(PART), b'')
             return
         last = time.monotonic()
@@ -237,7 +242,7 @@ def watch(args: argparse.Namespace) -> int:
     """Watch a product arrive."""
     name = args.file or '-'
     if args.record:
-        if not os.path.isfile(name):
+        if name == '-' or is_pipe(name):
             complain('a record is made of the file that was watched: name one')
             return UNREADABLE
         kept(args.record, args.force)
@@ -248,7 +253,7 @@ def watch(args: argparse.Namespace) -> int:
         try:
             watching.feed(part)
         except Refused as refused:
-            refusal = refused if name == '-' or refused.number > 16 else quoted(refused, name, watching.fed)
+            refusal = refused if name == '-' or is_pipe(name) or refused.number > 16 else quoted(refused, name, watching.fed)
             break
     status = refused_line(args, name, refusal) if refusal else arrived(args, name, watching)
     if args.record:
@@ -275,13 +280,14 @@ def arrived(args: argparse.Namespace, name: str, watching: Watch) -> int:
 # ---- the report
 
 
-def counted(name: str) -> tuple[str, Report | None, Refused | None, str]:
-    """The report of one file, its refusal, or what is the matter with it."""
+def counted(name: str) -> Report | str:
+    """The report of one file, or what is the matter with it."""
     report = Report()
     try:
-        return name, report, report.add(name), ''
+        report.add(name)
     except OSError as error:
-        return name, None, None, told(error, name)
+        return told(error, name)
+    return report
 
 
 def progress(items: Iterable[Any], total: int) -> Iterator[Any]:
@@ -299,24 +305,23 @@ def report(args: argparse.Namespace) -> int:
     """Count products: records, bytes, gaps and overlaps."""
     if args.picture:
         kept(args.picture, args.force)
-    total, status, troubles = Report(), ACCEPTED, []
+    total, troubles = Report(), []
     # the library runs outside of Python's lock, so threads are enough
     with ThreadPoolExecutor(args.jobs) as pool:
-        for name, part, _, trouble in progress(pool.map(counted, args.files), len(args.files)):
-            if part is None:
-                troubles.append(trouble)
-            else:
+        for part in progress(pool.map(counted, args.files), len(args.files)):
+            if isinstance(part, Report):
                 total = total + part
+            else:
+                troubles.append(part)
     for trouble in troubles:
         complain(trouble)
-        status = UNREADABLE
     if args.json:
         say(args, '', {**total.as_dict(), 'numbers': total.numbers, 'unreadable': troubles})
     else:
         sys.stdout.write(report_text(total))
     if args.picture:
         write_beside(args.picture, picture_of_report(total, suffix_of(args.picture)), args.force)
-    return status
+    return UNREADABLE if troubles else ACCEPTED
 
 
 def report_text(total: Report) -> str:

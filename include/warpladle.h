@@ -20,8 +20,8 @@
  *
  * WHAT COSTS WHAT. The judges read the main header's 3,307 bytes once, and of the other records the header and a pointer's 7 bytes alone, so a product
  * of 32 MiB in 100,000 records takes milliseconds. wl_record judges the arrival anew and walks to record k at each call: for all records of a product
- * ask wl_finished once, and wl_read_header at each start where a record's times are wanted. A field query judges the main header anew at each call, some microseconds; the ground point
- * twice. A part that is fed to a watch costs some 4 KiB of copying besides its records, so parts of a few KiB or more are best. Nothing allocates, and
+ * ask wl_rows once, and wl_read_header at each start where a record's times are wanted. Whether it is accepted wl_verdict says, with no rows. A field
+ * query judges the main header anew at each call, some microseconds; the ground point twice. A part that is fed to a watch costs some 4 KiB of copying besides its records, so parts of a few KiB or more are best. Nothing allocates, and
  * no call keeps anything of an earlier one but in the watch that it is lent.
  */
 #ifndef WARPLADLE_H
@@ -65,12 +65,17 @@ enum wl_refusal {
     WL_UNLIKE = 26,         /* two products that cannot be joined: another instrument, type, level or spacecraft, SPHR or global records; 0 */
     WL_OUT_OF_TIME = 27,    /* the second of two products to be joined starts before the first stops; 0 */
     WL_RESULT_LIMIT = 28,   /* a product to be written would have over 2,147,483,647 bytes or over 999,999 records, or a sum does not fit its line; 0 */
+    WL_PROFILE = 29,        /* a record against the Level 0 profile; the first such record's start. After 17 and before 18 */
     WL_UTH_SHORT = 30,      /* a humidity file short of 642 bytes; its length */
     WL_UTH_SEGMENTS = 31,   /* M, its number of segments, is negative; 614 */
     WL_UTH_GRID = 32,       /* a segment's line or column is not 1 to 80; where it stands */
     WL_UTH_BLOCKS = 33,     /* N, a segment's number of blocks, is below 1; where it stands */
     WL_UTH_CUT = 34,        /* a segment header or a block is cut; the file's length */
-    WL_UTH_LEFT = 35        /* bytes are left over after the last block; where they start */
+    WL_UTH_LEFT = 35,       /* bytes are left over after the last block; where they start */
+    WL_REPORT_FULL = 36,    /* a 4,097th product in a report, or a total past 64 bits; 0 */
+    WL_RECORD_LENGTH = 37,  /* the record of an arrival is shorter or longer than its counts ask; 0 */
+    WL_RECORD_COUNTS = 38,  /* it has not as many answers as part lengths; 0 */
+    WL_PART_LENGTHS = 39    /* the lengths of parts do not sum to the product's length; 0 */
 };
 
 /* ---- sizes of the answers */
@@ -195,7 +200,7 @@ enum wl_field_number {
 void wl_arrival(const uint8_t *bytes, size_t len, uint64_t answer[4]);
 
 /* Whether all of a product has come: 0, 0, 1, the count of records where it has; 0, 0, 0, 0 where a sound part has (wl_arrival counts that); or the
- * refusal 1 to 16. An arrival of which this says 1 is accepted by wl_finished. */
+ * refusal 1 to 16. An arrival of which this says 1 is accepted by wl_verdict. */
 void wl_extent(const uint8_t *bytes, size_t len, uint64_t answer[4]);
 
 /* ---- what stands where in a record's row */
@@ -210,10 +215,17 @@ enum wl_row {
     WL_ROW = 7       /* numbers in a row */
 };
 
-/* A finished product: 0, 0, the count of records, 0, with the records' rows at rows[0] to rows[count - 1], the main header's first, and the other
- * rows kept; or the refusal 1 to 16, 17 with the length, or 18 with the count where `room`, the rows that are lent, is less. Lend none to learn the
- * count. It takes 128 KiB of the stack for the ordinals. */
-void wl_finished(const uint8_t *bytes, size_t len, uint32_t (*rows)[7], size_t room, uint64_t answer[4]);
+/* The verdict of a finished product: 0, 0, the count of records, 0 where it is accepted; or the refusal 1 to 16, or 17 with the length. */
+void wl_verdict(const uint8_t *bytes, size_t len, uint64_t answer[4]);
+
+/* The rows of a finished product, which is judged first: 0, 0, the count of records, 0, with the records' rows at rows[0] to rows[count - 1], the main
+ * header's first, and the other rows kept; or what wl_verdict refuses it with, or 18 with the count where `room`, the rows that are lent, is less. It
+ * takes 128 KiB of the stack for the ordinals. */
+void wl_rows(const uint8_t *bytes, size_t len, uint32_t (*rows)[7], size_t room, uint64_t answer[4]);
+
+/* The same of a product of Level 0: 29 with its start, before 18, at the first VIADR that is not of group 0, subclass 0 and version 1 or 2, or MDR that is
+ * neither of group 0, subclass 0 to 4 and version 1 nor a dummy (group 13). */
+void wl_level0(const uint8_t *bytes, size_t len, uint32_t (*rows)[7], size_t room, uint64_t answer[4]);
 
 /* ---- the watch: a product that arrives in parts and is not kept */
 
@@ -236,6 +248,19 @@ void wl_watch_new(wl_watch *watch);
  * shown. A part of no bytes changes nothing; after a refusal every part is answered with it again. The bytes of a record beyond its header are
  * counted, not looked at. */
 void wl_watch_feed(wl_watch *watch, const uint8_t *part, size_t len, uint64_t answer[4]);
+
+/* ---- an arrival recorded and replayed. A record is numbers of 4 bytes, big-endian: n, the lengths of n parts, m, and m answers of the watch, each as
+ * number, place and count: 0, the end of the last whole record and the count of records while it waits; a refusal's number, its place and 0 */
+
+/* Feeds a new watch the product in the record's parts and compares what it answers after each: 0, 0, 0, 0 where all three numbers of every answer are the
+ * record's, and 0, 0, 1, the first part that differs, counted from 0. Or 37, where the record's length is not 8 + 4n + 12m; 38, where n is not m; 39, where
+ * the lengths do not sum to the product's length; in that order, with place 0. What wl_record_arrival wrote gives 0, 0, 0, 0. */
+void wl_replay(const uint8_t *record, size_t len, const uint8_t *product, size_t product_len, uint64_t answer[4]);
+
+/* The record of a product that comes in `count` parts of these lengths, at the start of the room: 0, 0, the bytes written, which are 8 + 16 times the
+ * count, 0; the bytes beyond them are kept. Or 39, where the lengths do not sum to the product's length or are 2^32 or more; then 18 with the bytes needed.
+ * Of a refusal nothing is written. */
+void wl_record_arrival(const uint32_t *lengths, size_t count, const uint8_t *product, size_t len, uint8_t *room, size_t room_len, uint64_t answer[4]);
 
 /* ---- the queries of a product, arriving or whole */
 
@@ -281,7 +306,7 @@ void wl_listing(const uint8_t *bytes, size_t len, uint8_t *text, size_t room, ui
  * their order; one pointer record to the first record of each class, group and subclass that is there; and the main header, with the size, the totals,
  * SENSING_START, SENSING_END, the two times in PRODUCT_NAME, the degraded counts, the durations and SUBSETTED_PRODUCT set anew. Or 25 where an end
  * is undefined (a flag of 0) or invalid, or the last before the first; the refusal of the finished judge 1 to 17; 28; or 18 with the bytes needed. Of
- * a refusal nothing is written. The result is accepted by wl_finished. It has at most the bytes of the product and 27 for each of its records. */
+ * a refusal nothing is written. The result is accepted by wl_verdict. It has at most the bytes of the product and 27 for each of its records. */
 void wl_cut(const uint8_t *bytes, size_t len, uint8_t first_defined, uint16_t first_day, uint32_t first_milli, uint8_t last_defined, uint16_t last_day,
             uint32_t last_milli, uint8_t *room, size_t room_len, uint64_t answer[4]);
 
@@ -291,7 +316,7 @@ void wl_cut(const uint8_t *bytes, size_t len, uint8_t first_defined, uint16_t fi
  * totals, the degraded counts and the durations (added; undefined where either is), SENSING_END and the end time in PRODUCT_NAME (the second's) set
  * anew. Or the refusal of the finished judge 1 to 17, of the first and then of the second; 26; 27, where the last defined stop of an MDR of the first
  * is after the first defined start of one of the second; 28; or 18 with the bytes needed. Of a refusal nothing is written. The result is accepted by
- * wl_finished. Joining three products one after the other gives the same bytes whichever two are joined first, where neither way is refused. */
+ * wl_verdict. Joining three products one after the other gives the same bytes whichever two are joined first, where neither way is refused. */
 void wl_join(const uint8_t *first, size_t first_len, const uint8_t *second, size_t second_len, uint8_t *room, size_t room_len, uint64_t answer[4]);
 
 /* Whether a product is a cut of another: 0, 0, 1, 0 where it is, and 0, 0, 0, the place where it is not. It is one where its MDRs are a run-through of
@@ -301,6 +326,20 @@ void wl_join(const uint8_t *first, size_t first_len, const uint8_t *second, size
  * classes 4 to 7 against the original's next such, each MDR taking the earliest match left; else, where one of the original's is missing, the cut's
  * length. Or the refusal of the finished judge 1 to 17, of the original and then of the cut. Whatever wl_cut writes is a cut of what it was cut from. */
 void wl_check_cut(const uint8_t *original, size_t len, const uint8_t *cut, size_t cut_len, uint64_t answer[4]);
+
+/* ---- the report of a month: 38 numbers, lent one after the other to each product; a new one is all zeros. [0] products lent, refused ones too; [c] records
+ * and [8 + c] bytes of class c, 1 to 8, of the accepted ones; [17] milliseconds of gap and [18] of overlap between the stop of an MDR and the start of the
+ * next one in its product; [19] pairs of which one of these two times is undefined, which have neither; [20] products accepted; [20 + n] products refused
+ * with n, 1 to 17 */
+
+/* Adds a product: 0, 0, 0, 0; or 0, 0, its own refusal, 1 to 17, and its place, where it is refused, which then adds one to [0] and to that tally and
+ * nothing else. Or 36, 0, 0, 0, and the report as it was, where [0] would pass 4,096 or another number 64 bits. A gap or overlap across one of the days
+ * with a leap second counts that second. In whatever order products are added, the report is the same. */
+void wl_report_add(uint64_t report[38], const uint8_t *bytes, size_t len, uint64_t answer[4]);
+
+/* Adds another report, number by number: 0, 0, 0, 0; or 36, 0, 0, 0, and the report as it was, where [0] would pass 4,096 or another number 64 bits. The
+ * report of a list is the merge of the reports of its parts. The two may not overlap in memory. */
+void wl_report_merge(uint64_t report[38], const uint64_t other[38], uint64_t answer[4]);
 
 /* ---- the humidity archive: Upper Tropospheric Humidity files in OpenMTP form, which are no EPS products. 542 bytes of text, a header of 100, and for
  * each of its M segments 36 bytes and N blocks of 72, N of each segment's own */

@@ -23,7 +23,7 @@ int main(void)
         return perror("standard input"), 2;
 
     uint64_t answer[WL_ANSWER];
-    wl_finished(product, len, rows, len / 20 + 1, answer);
+    wl_rows(product, len, rows, len / 20 + 1, answer);
     if (answer[0] != WL_ACCEPTED)
         return printf("refused %llu %llu\n", (unsigned long long)answer[0], (unsigned long long)answer[1]), 1;
     const uint32_t *last = rows[answer[2] - 1];

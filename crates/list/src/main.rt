@@ -8,14 +8,14 @@ use listing::Listed;
 ghost use lib.ListN.{length};
 ghost use Rattle.list.specs.Reading.{ReadIs};
 
-const HELP: [u8; 589] = *b"\
+const HELP: [u8; 602] = *b"\
 usage: list [FILE]\n\
 Lists the records of the EPS native product in FILE, or on standard input: a line with their count,\n\
 then a line for each record with its start, class, group, subclass, version and size.\n\
 A product that is refused prints one line, `refused`, the number and the place.\n\
 It takes 65,536 bytes, the limit that was asked for; a longer product is `refused 23 65536`. For a\n\
-product of any size link libwarpladle.a (tools/archive): wl_finished gives the start of each record,\n\
-and wl_read_header reads its header.\n\
+product of any size there is ./warpladle list FILE, and for programs libwarpladle.a (tools/archive),\n\
+whose wl_rows gives these numbers of each record.\n\
 README.md has the numbers, the places, the classes and the groups.\n";
 
 pub enum Input {

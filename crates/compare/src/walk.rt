@@ -1,5 +1,5 @@
-// The records of a cut, one after the other, against what is left of the original: a place for its SPHR and auxiliary records, and one for its
-// MDRs. Both places only go on, so no record of either product is compared twice.
+// The records of a cut, one after the other, against what is left of the original: a place for its SPHR and auxiliary records, and one
+// for its MDRs. Both places only go on, so no record of either product is compared twice.
 use crate::same::is_record;
 use record::header::size_at;
 ghost use mathlib.Core.Path.{_≡_};

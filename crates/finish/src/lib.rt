@@ -1,5 +1,5 @@
-// Finished products: the verdict, which is the arrival judge's refusals and then 17; and the lister, which judges for itself and then gives 18, or fills a row
-// for each record into the lent list, by a profile where one is asked for.
+// Finished products: the verdict, which is the arrival judge's refusals and then 17; and the lister, which judges for itself and then
+// gives 18, or fills a row for each record into the lent list, by a profile where one is asked for.
 mod fill;
 mod profile;
 mod row;
@@ -60,8 +60,8 @@ fn put_rows(s: &[u8], rows: &mut [[u32; 7]], count: usize, even: Even) -> Finish
     }
 }
 
-// The row lister: it judges for itself, and the rows of an accepted product's records go into the list. By a profile: 29 at the first record that is
-// against it, before 18.
+// The row lister: it judges for itself, and the rows of an accepted product's records go into the list. By a profile: 29 at the first
+// record that is against it, before 18.
 pub fn rows_by(s: &[u8], profile: &[[u8; 6]], rows: &mut [[u32; 7]]) -> Finished
     ensures { λ r. ⌜ RowsBy (now (profile .entry)) (now (s .entry)) (now (rows .entry)) r (now (rows .exit)) ⌝ }
 {

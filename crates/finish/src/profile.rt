@@ -1,5 +1,5 @@
-// The first record that a profile does not let through. A line of a profile has a class, a group, the least and the greatest subclass, the least and
-// the greatest version.
+// The first record that a profile does not let through. A line of a profile has a class, a group, the least and the greatest subclass,
+// the least and the greatest version.
 use record::header::size_at;
 ghost use mathlib.Core.Path.{_≡_};
 ghost use mathlib.Core.Bool.{_||_};
@@ -75,8 +75,8 @@ fn kind_at(s: &[u8], at: usize) -> u32
     ((wide(s[at]) * 256 + wide(s[at + 1])) * 256 + wide(s[at + 2])) * 256 + wide(s[at + 3])
 }
 
-// The records from `from` on that have the size and the kind of the one there; the byte after them comes back. The next place is known before the
-// header that stands there has come from memory, so the headers are read side by side.
+// The records from `from` on that have the size and the kind of the one there; the byte after them comes back. The next place is known
+// before the header that stands there has come from memory, so the headers are read side by side.
 fn pass_alike(s: &[u8], from: usize) -> usize
     requires { ⌜ Going (now s) from × (from < length (now s)) ⌝ }
     ensures { λ r. ⌜ Passes (now (s .entry)) from r × (from < r) ⌝ }

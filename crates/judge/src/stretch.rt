@@ -70,8 +70,8 @@ pub(crate) fn no_notes(at: usize) -> Notes
     }
 }
 
-// The notes with the records of the size from `at` up to `end`. One alone is not noted: there is nothing to gain by it, and a walk in which no record is
-// like the last one has nothing to do here.
+// The notes with the records of the size from `at` up to `end`. One alone is not noted: there is nothing to gain by it, and a walk in
+// which no record is like the last one has nothing to do here.
 pub(crate) fn noted(notes: Notes, at: usize, size: usize, end: usize, count: usize) -> Notes
     requires { ⌜ notes .last .count + count ≤ 4294967295 ⌝ }
     ensures { λ r. ⌜ NotedIs notes at size end count r ⌝ }

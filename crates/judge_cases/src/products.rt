@@ -1,5 +1,5 @@
-// Products judged: every prefix of an arrival and the verdict of the finished product, printed as the vectors' expected text is; and the rows
-// of the lister, also by the Level 0 profile, for rooms that are too small, just large enough, and larger.
+// Products judged: every prefix of an arrival and the verdict of the finished product, printed as the vectors' expected text is; and the
+// rows of the lister, also by the Level 0 profile, for rooms that are too small, just large enough, and larger.
 use crate::answers;
 use calendar::Refusal;
 use cases::input::part;

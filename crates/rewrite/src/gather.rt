@@ -25,8 +25,8 @@ pub struct Reached {
     pub at: usize,
 }
 
-// The records from `from` on that are of one size, as far as they are before `to`. The next place is known before the size that stands there has come from
-// memory, so the headers are read side by side.
+// The records from `from` on that are of one size, as far as they are before `to`. The next place is known before the size that stands
+// there has come from memory, so the headers are read side by side.
 fn gather_alike(
     s: &[u8],
     from: usize,

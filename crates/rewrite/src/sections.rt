@@ -64,8 +64,8 @@ pub struct Stopped {
     pub place: usize,
 }
 
-// The records from `from` on that are of one size, before which the last one with a defined stop is at `before`. The next place is known before the
-// size that stands there has come from memory, so the headers are read side by side.
+// The records from `from` on that are of one size, before which the last one with a defined stop is at `before`. The next place is known
+// before the size that stands there has come from memory, so the headers are read side by side.
 fn stop_alike(s: &[u8], from: usize, before: usize) -> Stopped
     requires { ⌜ LeftAfter (now s) from before × (from < length (now s)) ⌝ }
     ensures { λ r. ⌜ StopsOn (now (s .entry)) from before r ⌝ }

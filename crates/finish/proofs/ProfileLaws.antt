@@ -3,20 +3,20 @@
 use Prim.Native.Nat.{ℕ, zero, suc, _+_, _≤_, _<_}
 use native.Mathlib.Omega.{arith}
 use native.Mathlib.Numerals.{add-one}
-use mathlib.Core.Path.{_≡_, refl, sym, ap, _∙_}
+use mathlib.Core.Path.{_≡_, refl, sym, ap, subst, _∙_}
 use mathlib.Core.Bool.{Bool, true, false, cond, not, _||_}
 use mathlib.Core.List.{List, [], _∷_}
 use lib.ListN.{length, getD, drop}
 use lib.Seq.{drop-cons, drop-nil}
+use borrow.Author.Tests.{eq-eqb, ne-eqb}
 use lib.Dec.{eqb}
-use Rattle.meter.specs.Integer.{beAt}
-use Rattle.meter.proofs.IntegerLaws.{bytes-same}
 use Rattle.judge.specs.Table.{classAt, sizeAt}
 use Rattle.finish.specs.Ahead.{Record, Ahead, none, more}
 use Rattle.finish.specs.Rows.{groupAt, subclassAt, versionAt}
-use Rattle.finish.specs.Profile.{isLet, lets, speaks, allows, isAllowed, firstAgainst, Going, Passes, AgainstIs}
+use Rattle.finish.specs.Profile.{isLet, lets, speaks, isAllowed, firstAgainst, letAt, Going, Passes, Goes, AskedIs, AgainstIs}
 use Rattle.finish.specs.declared.profile.Against.{Against}
 use Rattle.finish.specs.declared.profile.Against.the-variants.{Nowhere, At}
+use Rattle.finish.specs.declared.profile.Asked.{Asked}
 use Rattle.calendar.specs.declared.Refusal.{Refusal}
 use Rattle.judge.specs.Extent.{Complete, Covered}
 use Rattle.finish.specs.Finish.{starts, FinishedIs, VerdictIs, Refuses, Unfit, RefusesBy, against, RowsBy}
@@ -25,49 +25,52 @@ use Rattle.finish.specs.declared.Finished.{Finished}
 use Rattle.finish.specs.declared.Finished.the-variants.{Accepted, Refused}
 use Rattle.finish.proofs.AheadLaws.{Turn, ahead-step, ahead-stop, one-ahead, all-ahead}
 
--- ---- the lines that are left, where `spoken` says that one before them has the class
-abbrev pub allowsFrom : Bool → List (List ℕ) → ℕ → ℕ → ℕ → ℕ → Bool
-allowsFrom spoken p c g s v = lets p c g s v || not (spoken || speaks p c)
-
-or-assoc : (x y z : Bool) → x || (y || z) ≡ (x || y) || z
-or-assoc true y z = refl
-or-assoc false y z = refl
-
-module _ (p : List (List ℕ)) (i c g s v : ℕ) (h : i < length p) where
-  line-at : drop i p ≡ getD p i [] ∷ drop (i + 1) p
-  line-at = drop-cons p i [] h ∙ ap (λ (n : ℕ). getD p i [] ∷ drop n p) (sym (add-one i))
-
-  pub line-yes : (spoken : Bool) → isLet (getD p i []) c g s v ≡ true → allowsFrom spoken (drop i p) c g s v ≡ true
-  line-yes spoken e = rw line-at (rw e refl)
-
-  pub line-no : (spoken r : Bool) → isLet (getD p i []) c g s v ≡ false → r ≡ spoken || eqb (getD (getD p i []) 0 0) c → allowsFrom spoken (drop i p) c g s v ≡ allowsFrom r (drop (i + 1) p) c g s v
-  line-no spoken r e d =
-      rw line-at (rw e (ap (λ (b : Bool). lets (drop (i + 1) p) c g s v || not b) (or-assoc spoken (eqb (getD (getD p i []) 0 0) c) (speaks (drop (i + 1) p) c))
-      ∙ ap (λ (b : Bool). lets (drop (i + 1) p) c g s v || not (b || speaks (drop (i + 1) p) c)) (sym d)))
-
+-- ---- the lines, one after the other
 past : (p : List (List ℕ)) (i : ℕ) → length p ≤ i → drop i p ≡ []
 past [] i h = drop-nil i
 past (l ∷ p) zero h = absurd (omega arith)
 past (l ∷ p) (suc i) h = past p i (omega arith)
 
-or-none : (b : Bool) → b || false ≡ b
-or-none true = refl
-or-none false = refl
+module _ (p : List (List ℕ)) (i : ℕ) (h : i < length p) where
+  line-at : drop i p ≡ getD p i [] ∷ drop (i + 1) p
+  line-at = drop-cons p i [] h ∙ ap (λ (n : ℕ). getD p i [] ∷ drop n p) (sym (add-one i))
 
-pub lines-over : (p : List (List ℕ)) (i c g s v : ℕ) (spoken : Bool) → length p ≤ i → allowsFrom spoken (drop i p) c g s v ≡ not spoken
-lines-over p i c g s v spoken h = ap (λ (l : List (List ℕ)). allowsFrom spoken l c g s v) (past p i h) ∙ ap not (or-none spoken)
+  pub line-no : (c g s v : ℕ) → isLet (getD p i []) c g s v ≡ false → lets (drop i p) c g s v ≡ lets (drop (i + 1) p) c g s v
+  line-no c g s v e = rw line-at (rw e refl)
 
-pub lines-all : (p : List (List ℕ)) (c g s v : ℕ) → allowsFrom false (drop 0 p) c g s v ≡ allows p c g s v
-lines-all [] c g s v = refl
-lines-all (l ∷ p) c g s v = refl
+  pub spoken-yes : (c : ℕ) → getD (getD p i []) 0 0 ≡ c → speaks (drop i p) c ≡ true
+  spoken-yes c e = rw line-at (rw (eq-eqb (getD (getD p i []) 0 0) c e) refl)
+
+  pub spoken-no : (c : ℕ) → (getD (getD p i []) 0 0 ≡ c → ⊥) → speaks (drop i p) c ≡ speaks (drop (i + 1) p) c
+  spoken-no c e = rw line-at (rw (ne-eqb (getD (getD p i []) 0 0) c e) refl)
+
+pub lines-over : (p : List (List ℕ)) (i c g s v : ℕ) → length p ≤ i → lets (drop i p) c g s v ≡ false
+lines-over p i c g s v h = ap (λ (l : List (List ℕ)). lets l c g s v) (past p i h)
+
+pub spoken-over : (p : List (List ℕ)) (i c : ℕ) → length p ≤ i → speaks (drop i p) c ≡ false
+spoken-over p i c h = ap (λ (l : List (List ℕ)). speaks l c) (past p i h)
+
+pub all-lines : (p : List (List ℕ)) → drop 0 p ≡ p
+all-lines [] = refl
+all-lines (l ∷ p) = refl
+
+-- a line of the profile lets through what the profile does
+or-true : (b : Bool) → b || true ≡ true
+or-true true = refl
+or-true false = refl
+
+pub line-lets : (p : List (List ℕ)) (i : ℕ) → i < length p → (c g s v : ℕ) → isLet (getD p i []) c g s v ≡ true → lets p c g s v ≡ true
+line-lets [] i h c g s v e = absurd (omega arith)
+line-lets (l ∷ p) zero h c g s v e = rw e refl
+line-lets (l ∷ p) (suc i) h c g s v e = rw (line-lets p i (omega arith) c g s v e) (or-true (isLet l c g s v))
 
 -- ---- the records that are left
 -- those from byte 0 on have the first against a profile of those from byte i on
-pub record Asked (p : List (List ℕ)) (a : List ℕ) (i : ℕ) : Type 0 where
+pub record Asking (p : List (List ℕ)) (a : List ℕ) (i : ℕ) : Type 0 where
   pub left : Going a i
   pub same : (l : List ℕ) → Ahead a 0 l → firstAgainst p a l ≡ firstAgainst p a (left .starts)
 
-pub asked-first : (p : List (List ℕ)) {a : List ℕ} → Going a 0 → Asked p a 0
+pub asked-first : (p : List (List ℕ)) {a : List ℕ} → Going a 0 → Asking p a 0
 asked-first p {a} g = record { left = g; same = λ l w. ap (firstAgainst p a) (one-ahead w (g .ahead)) }
 
 -- one that passes, and one that does not
@@ -77,7 +80,7 @@ passes-on p a i l e = rw e refl
 pub named-here : (p : List (List ℕ)) (a : List ℕ) (i : ℕ) (l : List ℕ) → isAllowed p a i ≡ false → firstAgainst p a (i ∷ l) ≡ At i
 named-here p a i l e = rw e refl
 
-module _ {p : List (List ℕ)} {a : List ℕ} {i : ℕ} (k : Asked p a i) where
+module _ {p : List (List ℕ)} {a : List ℕ} {i : ℕ} (k : Asking p a i) where
   pub asked-record : i < length a → Record a i
   asked-record h = ahead-step (k .left .ahead) h .here
 
@@ -86,55 +89,66 @@ module _ {p : List (List ℕ)} {a : List ℕ} {i : ℕ} (k : Asked p a i) where
       let t = ahead-step (k .left .ahead) h in
       sym (k .same l w ∙ ap (firstAgainst p a) (t .is) ∙ named-here p a i (t .rest) e)
 
-  pub asked-next : (j : ℕ) → isAllowed p a i ≡ true → Passes a i j → Asked p a j
-  asked-next j e q = record { left = q .left; same = λ l w. k .same l w ∙ q .same p (k .left .starts) (k .left .ahead) e }
+  pub asked-next : (j : ℕ) → Goes p a i j → Asking p a j
+  asked-next j q = record { left = q .left; same = λ l w. k .same l w ∙ q .same (k .left .starts) (k .left .ahead) }
 
   pub asked-last : length a ≤ i → AgainstIs p a Nowhere
   asked-last h l w = sym (k .same l w ∙ ap (firstAgainst p a) (ahead-stop (k .left .ahead) h))
 
--- ---- records of one kind
--- the record at byte j has the class, the group, the subclass and the version of that at byte i
-pub kind-same : (p : List (List ℕ)) (a : List ℕ) (i j : ℕ) → ((k : ℕ) → getD a k 0 < 256) → beAt a j 4 ≡ beAt a i 4 → isAllowed p a j ≡ isAllowed p a i
-kind-same p a i j b e =
-    let same : (m : ℕ) → m < 4 → getD a (j + m) 0 ≡ getD a (i + m) 0 = bytes-same a a j i 4 (λ k _. b (j + k)) (λ k _. b (i + k)) e in
-    let z : j + 0 ≡ j = omega arith in
-    let y : i + 0 ≡ i = omega arith in
-    let c : getD a j 0 ≡ getD a i 0 = ap (λ (n : ℕ). getD a n 0) (sym z) ∙ same 0 (omega arith) ∙ ap (λ (n : ℕ). getD a n 0) y in
-    ap (λ (n : ℕ). allows p n (getD a (j + 1) 0) (getD a (j + 2) 0) (getD a (j + 3) 0)) c
-    ∙ ap (λ (n : ℕ). allows p (getD a i 0) n (getD a (j + 2) 0) (getD a (j + 3) 0)) (same 1 (omega arith))
-    ∙ ap (λ (n : ℕ). allows p (getD a i 0) (getD a (i + 1) 0) n (getD a (j + 3) 0)) (same 2 (omega arith))
-    ∙ ap (λ (n : ℕ). allows p (getD a i 0) (getD a (i + 1) 0) (getD a (i + 2) 0) n) (same 3 (omega arith))
+-- ---- records that a line lets through
+let-allowed : (p : List (List ℕ)) (a l : List ℕ) (i : ℕ) → ((c g s v : ℕ) → isLet l c g s v ≡ true → lets p c g s v ≡ true) → letAt l a i ≡ true → isAllowed p a i ≡ true
+let-allowed p a l i f e = rw (f (classAt a i) (groupAt a i) (subclassAt a i) (versionAt a i) e) refl
 
 -- between two of them
-pub record Passing (a : List ℕ) (i j : ℕ) : Type 0 where
-  pub passes : Passes a i j
+pub record Passing (a l : List ℕ) (i j : ℕ) : Type 0 where
+  pub passes : Passes a l i j
   pub further : i < j
 
-pub passing-first : {a : List ℕ} {i z : ℕ} → Going a i → i < length a → z ≡ sizeAt a i → Passing a i (i + z)
-passing-first {a} {i} {z} g h e =
+pub passing-first : {a l : List ℕ} {i z : ℕ} → Going a i → i < length a → letAt l a i ≡ true → z ≡ sizeAt a i → Passing a l i (i + z)
+passing-first {a} {l} {i} {z} g h d e =
     let t = ahead-step (g .ahead) h in
     rw e record {
       passes = record {
         left = record { starts = t .rest; ahead = t .on };
-        same = λ p l w d. ap (firstAgainst p a) (one-ahead w (g .ahead) ∙ t .is) ∙ passes-on p a i (t .rest) d;
+        same = λ p f m w. ap (firstAgainst p a) (one-ahead w (g .ahead) ∙ t .is) ∙ passes-on p a i (t .rest) (let-allowed p a l i f d);
       };
       further = omega (arith, t .here .least);
     }
 
-module _ {a : List ℕ} {i j : ℕ} (k : Passing a i j) where
+module _ {a l : List ℕ} {i j : ℕ} (k : Passing a l i j) where
   pub passing-record : j < length a → Record a j
   passing-record h = ahead-step (k .passes .left .ahead) h .here
 
-  pub passing-next : {z : ℕ} → j < length a → z ≡ sizeAt a j → ((m : ℕ) → getD a m 0 < 256) → beAt a j 4 ≡ beAt a i 4 → Passing a i (j + z)
-  passing-next {z} h e b d =
+  pub passing-next : {z : ℕ} → j < length a → z ≡ sizeAt a j → letAt l a j ≡ true → Passing a l i (j + z)
+  passing-next {z} h e d =
       let t = ahead-step (k .passes .left .ahead) h in
       rw e record {
         passes = record {
           left = record { starts = t .rest; ahead = t .on };
-          same = λ p l w f. k .passes .same p l w f ∙ ap (firstAgainst p a) (t .is) ∙ passes-on p a j (t .rest) (kind-same p a i j b d ∙ f);
+          same = λ p f m w. k .passes .same p f m w ∙ ap (firstAgainst p a) (t .is) ∙ passes-on p a j (t .rest) (let-allowed p a l j f d);
         };
         further = omega (arith, k .further);
       }
+
+-- ---- what is asked of a record
+module _ {p : List (List ℕ)} {a : List ℕ} {i : ℕ} (g : Going a i) (h : i < length a) where
+  pub goes-by-line : {j k : ℕ} → k < length p → Passes a (getD p k []) i j → i < j → Goes p a i j
+  goes-by-line {k = k} l q f = record { left = q .left; further = f; same = q .same p (line-lets p k l) }
+
+  pub goes-unspoken : {z : ℕ} → z ≡ sizeAt a i → speaks p (classAt a i) ≡ false → Goes p a i (i + z)
+  goes-unspoken e d =
+      let t = ahead-step (g .ahead) h in
+      rw e record {
+        left = record { starts = t .rest; ahead = t .on };
+        further = omega (arith, t .here .least);
+        same = λ m w. ap (firstAgainst p a) (one-ahead w (g .ahead) ∙ t .is) ∙ passes-on p a i (t .rest) (rw d (or-true (lets p (classAt a i) (groupAt a i) (subclassAt a i) (versionAt a i))));
+      }
+
+pub is-against : (p : List (List ℕ)) (a : List ℕ) (i : ℕ) → lets p (classAt a i) (groupAt a i) (subclassAt a i) (versionAt a i) ≡ false → speaks p (classAt a i) ≡ true → isAllowed p a i ≡ false
+is-against p a i e d = rw (e, d) refl
+
+pub asked-at : (p : List (List ℕ)) (a : List ℕ) (i : ℕ) {r s : Asked} → r ≡ s → AskedIs p a i r → AskedIs p a i s
+asked-at p a i e x = subst (λ (t : Asked). AskedIs p a i t) e x
 
 -- ---- BY A PROFILE: what is said where no record is against it is what the lister says
 pub by-rows :

@@ -1,16 +1,18 @@
 -- A PROFILE: a table of what it lets through. A line has a class, a group, the least and the greatest subclass, the least and the greatest version. A class
 -- that no line has is not spoken of, and passes. Assumes nothing.
-use Prim.Native.Nat.{ℕ, _+_}
+use Prim.Native.Nat.{ℕ, _≤_, _<_}
 use mathlib.Core.Path.{_≡_}
 use mathlib.Core.Bool.{Bool, true, false, cond, not, _&&_, _||_}
 use mathlib.Core.List.{List, [], _∷_}
 use lib.Dec.{eqb, leb}
-use lib.ListN.{getD}
+use lib.ListN.{length, getD}
 use Rattle.judge.specs.Table.{classAt}
 use Rattle.finish.specs.Ahead.{Ahead}
 use Rattle.finish.specs.Rows.{groupAt, subclassAt, versionAt}
 use Rattle.finish.specs.declared.profile.Against.{Against}
 use Rattle.finish.specs.declared.profile.Against.the-variants.{Nowhere, At}
+use Rattle.finish.specs.declared.profile.Asked.{Asked}
+use Rattle.finish.specs.declared.profile.Asked.the-variants as A
 
 -- the line lets a record of class c, group g, subclass s and version v through
 unfoldable pub isLet : List ℕ → ℕ → ℕ → ℕ → ℕ → Bool
@@ -45,10 +47,31 @@ pub record Going (a : List ℕ) (i : ℕ) : Type 0 where
   pub starts : List ℕ
   pub ahead : Ahead a i starts
 
--- those from byte i on that are like the one there, up to byte r, meet a profile as it does
-pub record Passes (a : List ℕ) (i r : ℕ) : Type 0 where
+-- the line lets the record at byte i through
+abbrev pub letAt : List ℕ → List ℕ → ℕ → Bool
+letAt l a i = isLet l (classAt a i) (groupAt a i) (subclassAt a i) (versionAt a i)
+
+-- r is a line of the profile that lets such a record through, or none does
+pub record LineIs (p : List (List ℕ)) (c g s v r : ℕ) : Type 0 where
+  pub found : r < length p → isLet (getD p r []) c g s v ≡ true
+  pub none : length p ≤ r → lets p c g s v ≡ false
+
+-- where a profile lets through what the line l does, the first against it of those from byte i on is that of those from byte r on
+pub record Passes (a l : List ℕ) (i r : ℕ) : Type 0 where
   pub left : Going a r
-  pub same : (p : List (List ℕ)) (l : List ℕ) → Ahead a i l → isAllowed p a i ≡ true → firstAgainst p a l ≡ firstAgainst p a (left .starts)
+  pub same :
+      (p : List (List ℕ)) → ((c g s v : ℕ) → isLet l c g s v ≡ true → lets p c g s v ≡ true) → (m : List ℕ) → Ahead a i m
+      → firstAgainst p a m ≡ firstAgainst p a (left .starts)
+
+-- the walk has gone on from byte i to byte r
+pub record Goes (p : List (List ℕ)) (a : List ℕ) (i r : ℕ) : Type 0 where
+  pub left : Going a r
+  pub further : i < r
+  pub same : (m : List ℕ) → Ahead a i m → firstAgainst p a m ≡ firstAgainst p a (left .starts)
+
+abbrev pub AskedIs : List (List ℕ) → List ℕ → ℕ → Asked → Type 0
+AskedIs p a i A.Against = isAllowed p a i ≡ false
+AskedIs p a i (A.On r) = Goes p a i r
 
 abbrev pub AgainstIs : List (List ℕ) → List ℕ → Against → Type 0
 AgainstIs p a r = (l : List ℕ) → Ahead a 0 l → r ≡ firstAgainst p a l

@@ -2,12 +2,10 @@
 // the least and the greatest version.
 use record::header::size_at;
 ghost use mathlib.Core.Path.{_≡_};
-ghost use mathlib.Core.Bool.{_||_};
-ghost use Prim.Native.Nat.{_+_, _≤_, _<_};
-ghost use lib.Dec.{eqb};
+ghost use mathlib.Core.Bool.{true};
+ghost use Prim.Native.Nat.{_<_};
 ghost use lib.ListN.{length};
-ghost use Rattle.meter.specs.Integer.{beAt};
-ghost use Rattle.finish.specs.Profile.{isLet, allows, Going, Passes, AgainstIs};
+ghost use Rattle.finish.specs.Profile.{isLet, speaks, letAt, Going, LineIs, Passes, AskedIs, AgainstIs};
 
 // `At` has its place.
 pub enum Against {
@@ -36,64 +34,73 @@ fn is_let(line: [u8; 6], class: u8, group: u8, subclass: u8, version: u8) -> boo
     version <= line[5]
 }
 
-fn is_spoken(before: bool, of: u8, class: u8) -> bool
-    ensures { λ r. ⌜ r ≡ before || eqb of class ⌝ }
+// The first line that lets such a record through, or how many lines there are.
+fn line_for(profile: &[[u8; 6]], class: u8, group: u8, subclass: u8, version: u8) -> usize
+    ensures { λ r. ⌜ LineIs (now (profile .entry)) class group subclass version r ⌝ }
 {
-    if before {
-        return true;
+    let mut i: usize = 0;
+    while i < profile.len() {
+        if is_let(profile[i], class, group, subclass, version) {
+            return i;
+        }
+        i += 1;
     }
-    of == class
+    i
 }
 
-fn is_allowed(profile: &[[u8; 6]], class: u8, group: u8, subclass: u8, version: u8) -> bool
-    ensures { λ r. ⌜ r ≡ allows (now (profile .entry)) class group subclass version ⌝ }
+fn is_spoken(profile: &[[u8; 6]], class: u8) -> bool
+    ensures { λ r. ⌜ r ≡ speaks (now (profile .entry)) class ⌝ }
 {
-    let mut spoken = false;
     let mut i: usize = 0;
     while i < profile.len() {
         let line = profile[i];
-        if is_let(line, class, group, subclass, version) {
+        if line[0] == class {
             return true;
         }
-        spoken = is_spoken(spoken, line[0], class);
         i += 1;
     }
-    !spoken
+    false
 }
 
-fn wide(b: u8) -> u32
-    ensures { λ r. ⌜ (r ≡ b) × (r < 256) ⌝ }
-{
-    b as u32
-}
-
-// Class, group, subclass and version of the record at `at`, which are one load.
-fn kind_at(s: &[u8], at: usize) -> u32
-    requires { ⌜ at + 4 ≤ length (now s) ⌝ }
-    ensures { λ r. ⌜ r ≡ beAt (now (s .entry)) at 4 ⌝ }
-{
-    ((wide(s[at]) * 256 + wide(s[at + 1])) * 256 + wide(s[at + 2])) * 256 + wide(s[at + 3])
-}
-
-// The records from `from` on that have the size and the kind of the one there; the byte after them comes back. The next place is known
-// before the header that stands there has come from memory, so the headers are read side by side.
-fn pass_alike(s: &[u8], from: usize) -> usize
-    requires { ⌜ Going (now s) from × (from < length (now s)) ⌝ }
-    ensures { λ r. ⌜ Passes (now (s .entry)) from r × (from < r) ⌝ }
+// The records from `from` on that have the size of the one there and that the line lets through; the byte after them comes back. The next
+// place is known before the header that stands there has come from memory, so the headers are read side by side.
+fn pass_let(s: &[u8], from: usize, line: [u8; 6]) -> usize
+    requires { ⌜ Going (now s) from × (from < length (now s)) × (letAt line (now s) from ≡ true) ⌝ }
+    ensures { λ r. ⌜ Passes (now (s .entry)) line from r × (from < r) ⌝ }
 {
     let size = size_at(s, from);
-    let kind = kind_at(s, from);
     let mut at = from + size;
     while at < s.len() {
         if size_at(s, at) != size {
             return at;
         }
-        if kind_at(s, at) != kind {
+        if !is_let(line, s[at], s[at + 1], s[at + 2], s[at + 3]) {
             return at;
         }
         at += size;
     }
     at
+}
+
+// Against the profile, or where the walk goes on.
+pub enum Asked {
+    Against,
+    On(usize),
+}
+
+fn ask(s: &[u8], profile: &[[u8; 6]], at: usize) -> Asked
+    requires { ⌜ Going (now s) at × (at < length (now s)) ⌝ }
+    ensures { λ r. ⌜ AskedIs (now (profile .entry)) (now (s .entry)) at r ⌝ }
+{
+    let i = line_for(profile, s[at], s[at + 1], s[at + 2], s[at + 3]);
+    if i < profile.len() {
+        let line = profile[i];
+        return Asked::On(pass_let(s, at, line));
+    }
+    if is_spoken(profile, s[at]) {
+        return Asked::Against;
+    }
+    Asked::On(at + size_at(s, at))
 }
 
 // The first record of a product that is against the profile.
@@ -106,10 +113,14 @@ pub(crate) fn first_against(s: &[u8], profile: &[[u8; 6]]) -> Against
     }
     let mut at: usize = 0;
     while at < s.len() {
-        if !is_allowed(profile, s[at], s[at + 1], s[at + 2], s[at + 3]) {
-            return Against::At(at);
+        match ask(s, profile, at) {
+            Asked::Against => {
+                return Against::At(at);
+            }
+            Asked::On(next) => {
+                at = next;
+            }
         }
-        at = pass_alike(s, at);
     }
     Against::Nowhere
 }

@@ -15,19 +15,26 @@ pub(crate) fn wide(x: u8) -> usize
     x as usize
 }
 
+// The column of a group. A processor picks one of two values without a guess, so that no header is waited for.
+fn column(group: u8) -> usize
+    requires { ⌜ isGroup group ≡ true ⌝ }
+    ensures { λ r. ⌜ (r < 16) × (groupAt r ≡ group) ⌝ }
+{
+    if group <= 13 {
+        wide(group)
+    } else if group == 15 {
+        14
+    } else {
+        15
+    }
+}
+
 // The place of a class, a group and a subclass in the table of kinds.
 pub(crate) fn slot(class: u8, group: u8, subclass: u8) -> usize
     requires { ⌜ (4 ≤ class) × (class ≤ 8) × (isGroup group ≡ true) ⌝ }
     ensures { λ r. ⌜ SlotOf class group subclass r ⌝ }
 {
-    let row = (wide(class) - 4) * 16;
-    if group <= 13 {
-        return (row + wide(group)) * 256 + wide(subclass);
-    }
-    if group == 15 {
-        return (row + 14) * 256 + wide(subclass);
-    }
-    (row + 15) * 256 + wide(subclass)
+    ((wide(class) - 4) * 16 + column(group)) * 256 + wide(subclass)
 }
 
 // Place j, if it is empty, gets n + 1.

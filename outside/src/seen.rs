@@ -1,5 +1,6 @@
 //! What a run's answers were, so that no run is empty.
 use crate::values::Refusal;
+use crate::Row;
 use std::collections::BTreeMap;
 use std::time::Instant;
 
@@ -44,4 +45,26 @@ impl Seen {
             assert_eq!(self.refusals.len(), refusals.len(), "{} lacks a refusal of {refusals:?}", self.function);
         }
     }
+}
+
+/// What a place of a list holds before it is lent.
+pub const KEPT: Row = [0xdead_beef; 7];
+
+/// One that fills a list of rows that it is lent.
+pub type Lister = fn(&[u8], &mut [Row]) -> Result<u64, Refusal>;
+
+/// One answer of all the listers and one list of rows; the places beside those that are lent are kept, and so are the bytes.
+#[track_caller]
+pub fn listed(bytes: &[u8], room: usize, first: Lister, others: &[Lister]) -> (Result<u64, Refusal>, Vec<Row>) {
+    let mut rows = vec![KEPT; room + 2];
+    let before = bytes.to_vec();
+    let answer = first(bytes, &mut rows[1..=room]);
+    for other in others {
+        let mut lent = vec![KEPT; room + 2];
+        assert_eq!(other(bytes, &mut lent[1..=room]), answer, "at {} room {room}", bytes.len());
+        assert_eq!(lent, rows, "at {} room {room}", bytes.len());
+    }
+    assert_eq!(bytes, before);
+    assert_eq!((rows[0], rows[room + 1]), (KEPT, KEPT));
+    (answer, rows[1..=room].to_vec())
 }

@@ -1,30 +1,21 @@
 //! Request Nine: the profile judge that was written from the papers gives the request's vectors and agrees with the tables of 002 asked of the rows.
 //! With the feature, that of the boundary answers the same. Every number of every place that is lent is compared, and one more on each side.
 use outside::generate::{hurt, level0_kinds, prefix, product, Rng};
-use outside::seen::{cases, Seen};
+use outside::seen::{cases, listed, Lister, Seen, KEPT};
 use outside::values::Refusal;
 use outside::{level0, plain, vectors, Row};
 use std::collections::BTreeMap;
 
-const KEPT: Row = [0xdead_beef; 7];
+const OTHERS: &[Lister] = &[
+    level0::level0,
+    #[cfg(feature = "boundary")]
+    outside::boundary::level0,
+];
 
 /// One answer of all and one list of rows.
 #[track_caller]
 fn judged(bytes: &[u8], room: usize) -> (Result<u64, Refusal>, Vec<Row>) {
-    let mut rows = vec![KEPT; room + 2];
-    let answer = level0::plainly(bytes, &mut rows[1..=room]);
-    let mut others: Vec<fn(&[u8], &mut [Row]) -> Result<u64, Refusal>> = vec![level0::level0];
-    #[cfg(feature = "boundary")]
-    others.push(outside::boundary::level0);
-    let before = bytes.to_vec();
-    for other in others.drain(..) {
-        let mut lent = vec![KEPT; room + 2];
-        assert_eq!(other(bytes, &mut lent[1..=room]), answer, "at {} room {room}", bytes.len());
-        assert_eq!(lent, rows, "at {} room {room}", bytes.len());
-    }
-    assert_eq!(bytes, before);
-    assert_eq!((rows[0], rows[room + 1]), (KEPT, KEPT));
-    (answer, rows[1..=room].to_vec())
+    listed(bytes, room, level0::plainly, OTHERS)
 }
 
 fn all() -> Vec<u64> {

@@ -2,29 +2,20 @@
 //! vectors; the answer, and every number of every place that is lent and of one on each side.
 use outside::generate::{build, damage, few_kinds, prefix, shape, Rng};
 use outside::json::Json;
-use outside::seen::{cases, Seen};
+use outside::seen::{cases, listed, Lister, Seen, KEPT};
 use outside::values::Refusal;
 use outside::{fast, plain, vectors, Row};
 
-const KEPT: Row = [0xdead_beef; 7];
+const OTHERS: &[Lister] = &[
+    fast::rows,
+    #[cfg(feature = "boundary")]
+    outside::boundary::rows,
+];
 
 /// One answer and one list of rows, the places beside those that are lent with them.
 #[track_caller]
 fn judged(bytes: &[u8], room: usize) -> (Result<u64, Refusal>, Vec<Row>) {
-    let mut rows = vec![KEPT; room + 2];
-    let answer = plain::rows(bytes, &mut rows[1..=room]);
-    let mut others: Vec<fn(&[u8], &mut [Row]) -> Result<u64, Refusal>> = vec![fast::rows];
-    #[cfg(feature = "boundary")]
-    others.push(outside::boundary::rows);
-    let before = bytes.to_vec();
-    for other in others.drain(..) {
-        let mut lent = vec![KEPT; room + 2];
-        assert_eq!(other(bytes, &mut lent[1..=room]), answer, "at {} room {room}", bytes.len());
-        assert_eq!(lent, rows, "at {} room {room}", bytes.len());
-    }
-    assert_eq!(bytes, before);
-    assert_eq!((rows[0], rows[room + 1]), (KEPT, KEPT));
-    (answer, rows[1..=room].to_vec())
+    listed(bytes, room, plain::rows, OTHERS)
 }
 
 #[test]

@@ -1,154 +1,76 @@
--- A profile, line by line and record by record: what is asked of the lines that are left, and of the records that are left, is what is asked of all. Assumes
--- nothing.
-use Prim.Native.Nat.{ℕ, zero, suc, _+_, _≤_, _<_}
+-- The first record against a profile: what is asked of the records that are left is what is asked of all, and those that meet it can be passed over.
+-- Assumes nothing.
+use Prim.Native.Nat.{ℕ, _+_, _≤_, _<_}
 use native.Mathlib.Omega.{arith}
-use native.Mathlib.Numerals.{add-one}
+use native.Mathlib.Decide.{ℕ-discrete}
 use mathlib.Core.Path.{_≡_, refl, sym, ap, subst, _∙_}
-use mathlib.Core.Bool.{Bool, true, false, cond, not, _||_}
+use mathlib.Core.Bool.{true, false}
 use mathlib.Core.List.{List, [], _∷_}
-use lib.ListN.{length, getD, drop}
-use lib.Seq.{drop-cons, drop-nil}
-use borrow.Author.Tests.{eq-eqb, ne-eqb}
-use lib.Dec.{eqb}
-use Rattle.judge.specs.Table.{classAt, sizeAt}
+use lib.ListN.{length}
+use Rattle.judge.specs.Table.{sizeAt}
+use Rattle.judge.specs.Profile.{isAllowed, Meeting, over, further}
 use Rattle.finish.specs.Ahead.{Record, Ahead, none, more}
-use Rattle.finish.specs.Rows.{groupAt, subclassAt, versionAt}
-use Rattle.finish.specs.Profile.{isLet, lets, speaks, isAllowed, firstAgainst, letAt, Going, Passes, Goes, AskedIs, AgainstIs}
+use Rattle.finish.specs.Profile.{firstAgainst, Going, LeapIs, AgainstIs}
 use Rattle.finish.specs.declared.profile.Against.{Against}
 use Rattle.finish.specs.declared.profile.Against.the-variants.{Nowhere, At}
-use Rattle.finish.specs.declared.profile.Asked.{Asked}
 use Rattle.calendar.specs.declared.Refusal.{Refusal}
 use Rattle.judge.specs.Extent.{Complete, Covered}
+use Rattle.judge.proofs.ProfileLaws.{meeting-le}
 use Rattle.finish.specs.Finish.{starts, FinishedIs, VerdictIs, Refuses, Unfit, RefusesBy, against, RowsBy}
 use Rattle.finish.specs.Finish as F
 use Rattle.finish.specs.declared.Finished.{Finished}
 use Rattle.finish.specs.declared.Finished.the-variants.{Accepted, Refused}
 use Rattle.finish.proofs.AheadLaws.{Turn, ahead-step, ahead-stop, one-ahead, all-ahead}
 
--- ---- the lines, one after the other
-past : (p : List (List ℕ)) (i : ℕ) → length p ≤ i → drop i p ≡ []
-past [] i h = drop-nil i
-past (l ∷ p) zero h = absurd (omega arith)
-past (l ∷ p) (suc i) h = past p i (omega arith)
-
-module _ (p : List (List ℕ)) (i : ℕ) (h : i < length p) where
-  line-at : drop i p ≡ getD p i [] ∷ drop (i + 1) p
-  line-at = drop-cons p i [] h ∙ ap (λ (n : ℕ). getD p i [] ∷ drop n p) (sym (add-one i))
-
-  pub line-no : (c g s v : ℕ) → isLet (getD p i []) c g s v ≡ false → lets (drop i p) c g s v ≡ lets (drop (i + 1) p) c g s v
-  line-no c g s v e = rw line-at (rw e refl)
-
-  pub spoken-yes : (c : ℕ) → getD (getD p i []) 0 0 ≡ c → speaks (drop i p) c ≡ true
-  spoken-yes c e = rw line-at (rw (eq-eqb (getD (getD p i []) 0 0) c e) refl)
-
-  pub spoken-no : (c : ℕ) → (getD (getD p i []) 0 0 ≡ c → ⊥) → speaks (drop i p) c ≡ speaks (drop (i + 1) p) c
-  spoken-no c e = rw line-at (rw (ne-eqb (getD (getD p i []) 0 0) c e) refl)
-
-pub lines-over : (p : List (List ℕ)) (i c g s v : ℕ) → length p ≤ i → lets (drop i p) c g s v ≡ false
-lines-over p i c g s v h = ap (λ (l : List (List ℕ)). lets l c g s v) (past p i h)
-
-pub spoken-over : (p : List (List ℕ)) (i c : ℕ) → length p ≤ i → speaks (drop i p) c ≡ false
-spoken-over p i c h = ap (λ (l : List (List ℕ)). speaks l c) (past p i h)
-
-pub all-lines : (p : List (List ℕ)) → drop 0 p ≡ p
-all-lines [] = refl
-all-lines (l ∷ p) = refl
-
--- a line of the profile lets through what the profile does
-or-true : (b : Bool) → b || true ≡ true
-or-true true = refl
-or-true false = refl
-
-pub line-lets : (p : List (List ℕ)) (i : ℕ) → i < length p → (c g s v : ℕ) → isLet (getD p i []) c g s v ≡ true → lets p c g s v ≡ true
-line-lets [] i h c g s v e = absurd (omega arith)
-line-lets (l ∷ p) zero h c g s v e = rw e refl
-line-lets (l ∷ p) (suc i) h c g s v e = rw (line-lets p i (omega arith) c g s v e) (or-true (isLet l c g s v))
-
--- ---- the records that are left
--- those from byte 0 on have the first against a profile of those from byte i on
-pub record Asking (p : List (List ℕ)) (a : List ℕ) (i : ℕ) : Type 0 where
-  pub left : Going a i
-  pub same : (l : List ℕ) → Ahead a 0 l → firstAgainst p a l ≡ firstAgainst p a (left .starts)
-
-pub asked-first : (p : List (List ℕ)) {a : List ℕ} → Going a 0 → Asking p a 0
-asked-first p {a} g = record { left = g; same = λ l w. ap (firstAgainst p a) (one-ahead w (g .ahead)) }
-
 -- one that passes, and one that does not
-pub passes-on : (p : List (List ℕ)) (a : List ℕ) (i : ℕ) (l : List ℕ) → isAllowed p a i ≡ true → firstAgainst p a (i ∷ l) ≡ firstAgainst p a l
+passes-on : (p : List (List ℕ)) (a : List ℕ) (i : ℕ) (l : List ℕ) → isAllowed p a i ≡ true → firstAgainst p a (i ∷ l) ≡ firstAgainst p a l
 passes-on p a i l e = rw e refl
 
-pub named-here : (p : List (List ℕ)) (a : List ℕ) (i : ℕ) (l : List ℕ) → isAllowed p a i ≡ false → firstAgainst p a (i ∷ l) ≡ At i
+named-here : (p : List (List ℕ)) (a : List ℕ) (i : ℕ) (l : List ℕ) → isAllowed p a i ≡ false → firstAgainst p a (i ∷ l) ≡ At i
 named-here p a i l e = rw e refl
 
-module _ {p : List (List ℕ)} {a : List ℕ} {i : ℕ} (k : Asking p a i) where
+-- ---- the records that are left
+-- those that start at the bytes l have the first against a profile of those from byte i on
+pub record Asking (p : List (List ℕ)) (a l : List ℕ) (i : ℕ) : Type 0 where
+  pub left : Going a i
+  pub same : firstAgainst p a l ≡ firstAgainst p a (left .starts)
+
+pub asked-first : (p : List (List ℕ)) {a l : List ℕ} {i : ℕ} → Ahead a i l → Asking p a l i
+asked-first p {l = l} w = record { left = record { starts = l; ahead = w }; same = refl }
+
+module _ {p : List (List ℕ)} {a l : List ℕ} {i : ℕ} (k : Asking p a l i) where
   pub asked-record : i < length a → Record a i
   asked-record h = ahead-step (k .left .ahead) h .here
 
-  pub asked-stop : i < length a → isAllowed p a i ≡ false → AgainstIs p a (At i)
-  asked-stop h e l w =
+  pub asked-stop : i < length a → isAllowed p a i ≡ false → firstAgainst p a l ≡ At i
+  asked-stop h e =
       let t = ahead-step (k .left .ahead) h in
-      sym (k .same l w ∙ ap (firstAgainst p a) (t .is) ∙ named-here p a i (t .rest) e)
+      k .same ∙ ap (firstAgainst p a) (t .is) ∙ named-here p a i (t .rest) e
 
-  pub asked-next : (j : ℕ) → Goes p a i j → Asking p a j
-  asked-next j q = record { left = q .left; same = λ l w. k .same l w ∙ q .same (k .left .starts) (k .left .ahead) }
+  pub asked-next : i < length a → isAllowed p a i ≡ true → Asking p a l (i + sizeAt a i)
+  asked-next h e =
+      let t = ahead-step (k .left .ahead) h in
+      record { left = record { starts = t .rest; ahead = t .on }; same = k .same ∙ ap (firstAgainst p a) (t .is) ∙ passes-on p a i (t .rest) e }
 
-  pub asked-last : length a ≤ i → AgainstIs p a Nowhere
-  asked-last h l w = sym (k .same l w ∙ ap (firstAgainst p a) (ahead-stop (k .left .ahead) h))
+  pub asked-last : length a ≤ i → firstAgainst p a l ≡ Nowhere
+  asked-last h = k .same ∙ ap (firstAgainst p a) (ahead-stop (k .left .ahead) h)
 
--- ---- records that a line lets through
-let-allowed : (p : List (List ℕ)) (a l : List ℕ) (i : ℕ) → ((c g s v : ℕ) → isLet l c g s v ≡ true → lets p c g s v ≡ true) → letAt l a i ≡ true → isAllowed p a i ≡ true
-let-allowed p a l i f e = rw (f (classAt a i) (groupAt a i) (subclassAt a i) (versionAt a i) e) refl
+-- THOSE THAT MEET THE PROFILE are passed over: the first against it is one of those after them
+pub meeting-ahead : {p : List (List ℕ)} {a l : List ℕ} {i j : ℕ} → Ahead a i l → Meeting p a i j → Asking p a l j
+meeting-ahead {p} w over = asked-first p w
+meeting-ahead {p} {a} {j = j} (none h) (further e m) = record { left = record { starts = []; ahead = none {i = j} (omega (arith, meeting-le m)) }; same = refl }
+meeting-ahead {p} {a} {i = i} (more {l = l} r n) (further e m) = let k = meeting-ahead n m in record { left = k .left; same = passes-on p a i l e ∙ k .same }
 
--- between two of them
-pub record Passing (a l : List ℕ) (i j : ℕ) : Type 0 where
-  pub passes : Passes a l i j
-  pub further : i < j
+pub asked-leap : {p : List (List ℕ)} {a l : List ℕ} {i j : ℕ} → Asking p a l i → Meeting p a i j → Asking p a l j
+asked-leap k m = let q = meeting-ahead (k .left .ahead) m in record { left = q .left; same = k .same ∙ q .same }
 
-pub passing-first : {a l : List ℕ} {i z : ℕ} → Going a i → i < length a → letAt l a i ≡ true → z ≡ sizeAt a i → Passing a l i (i + z)
-passing-first {a} {l} {i} {z} g h d e =
-    let t = ahead-step (g .ahead) h in
-    rw e record {
-      passes = record {
-        left = record { starts = t .rest; ahead = t .on };
-        same = λ p f m w. ap (firstAgainst p a) (one-ahead w (g .ahead) ∙ t .is) ∙ passes-on p a i (t .rest) (let-allowed p a l i f d);
-      };
-      further = omega (arith, t .here .least);
-    }
-
-module _ {a l : List ℕ} {i j : ℕ} (k : Passing a l i j) where
-  pub passing-record : j < length a → Record a j
-  passing-record h = ahead-step (k .passes .left .ahead) h .here
-
-  pub passing-next : {z : ℕ} → j < length a → z ≡ sizeAt a j → letAt l a j ≡ true → Passing a l i (j + z)
-  passing-next {z} h e d =
-      let t = ahead-step (k .passes .left .ahead) h in
-      rw e record {
-        passes = record {
-          left = record { starts = t .rest; ahead = t .on };
-          same = λ p f m w. k .passes .same p f m w ∙ ap (firstAgainst p a) (t .is) ∙ passes-on p a j (t .rest) (let-allowed p a l j f d);
-        };
-        further = omega (arith, k .further);
-      }
-
--- ---- what is asked of a record
-module _ {p : List (List ℕ)} {a : List ℕ} {i : ℕ} (g : Going a i) (h : i < length a) where
-  pub goes-by-line : {j k : ℕ} → k < length p → Passes a (getD p k []) i j → i < j → Goes p a i j
-  goes-by-line {k = k} l q f = record { left = q .left; further = f; same = q .same p (line-lets p k l) }
-
-  pub goes-unspoken : {z : ℕ} → z ≡ sizeAt a i → speaks p (classAt a i) ≡ false → Goes p a i (i + z)
-  goes-unspoken e d =
-      let t = ahead-step (g .ahead) h in
-      rw e record {
-        left = record { starts = t .rest; ahead = t .on };
-        further = omega (arith, t .here .least);
-        same = λ m w. ap (firstAgainst p a) (one-ahead w (g .ahead) ∙ t .is) ∙ passes-on p a i (t .rest) (rw d (or-true (lets p (classAt a i) (groupAt a i) (subclassAt a i) (versionAt a i))));
-      }
-
-pub is-against : (p : List (List ℕ)) (a : List ℕ) (i : ℕ) → lets p (classAt a i) (groupAt a i) (subclassAt a i) (versionAt a i) ≡ false → speaks p (classAt a i) ≡ true → isAllowed p a i ≡ false
-is-against p a i e d = rw (e, d) refl
-
-pub asked-at : (p : List (List ℕ)) (a : List ℕ) (i : ℕ) {r s : Asked} → r ≡ s → AskedIs p a i r → AskedIs p a i s
-asked-at p a i e x = subst (λ (t : Asked). AskedIs p a i t) e x
+-- by the leap of the code, which goes on
+pub leaps : {p : List (List ℕ)} {a l : List ℕ} {i j r : ℕ} → Asking p a l i → Meeting p a 3307 j → LeapIs i j r → Asking p a l r × (i ≤ r)
+leaps {p} {a} {l} {i} {j} {r} k m e =
+    elim (ℕ-discrete i 3307) [
+      | yes f ↦ let n = subst (λ (x : ℕ). Meeting p a x j) (sym f) m in (subst (Asking p a l) (sym (e .first f)) (asked-leap k n), omega (arith, meeting-le n, e .first f))
+      | no f ↦ (subst (Asking p a l) (sym (e .other f)) k, omega (arith, e .other f))
+    ]
 
 -- ---- BY A PROFILE: what is said where no record is against it is what the lister says
 pub by-rows :

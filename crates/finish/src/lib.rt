@@ -65,14 +65,15 @@ fn put_rows(s: &[u8], rows: &mut [[u32; 7]], count: usize, even: Even) -> Finish
 pub fn rows_by(s: &[u8], profile: &[[u8; 6]], rows: &mut [[u32; 7]]) -> Finished
     ensures { λ r. ⌜ RowsBy (now (profile .entry)) (now (s .entry)) (now (rows .entry)) r (now (rows .exit)) ⌝ }
 {
-    let surveyed = survey(s);
+    let surveyed = survey(s, profile);
     let even = surveyed.stretch;
+    let met = surveyed.met;
     let extent = surveyed.extent;
     let said = judged(extent, s.len());
     let Finished::Accepted { count } = said else {
         return said;
     };
-    match first_against(s, profile) {
+    match first_against(s, profile, met) {
         Against::At(place) => refused(29, place),
         Against::Nowhere => put_rows(s, rows, count, even),
     }

@@ -8,6 +8,7 @@ pub mod CountLaws
 pub mod Covering
 pub mod RunLaws
 pub mod StretchLaws
+pub mod ProfileLaws
 pub mod TimesLaws
 pub mod PendingLaws
 pub mod SweepLaws

@@ -7,6 +7,8 @@ use lib.ListN.{length}
 use Rattle.judge.specs.Table.{sizeAt, Judged}
 use Rattle.judge.specs.Run.{LikeIs, Alike}
 use Rattle.judge.specs.Stretch.{Even, over, further, StretchIs, noStretch}
+use Rattle.judge.specs.Profile as P
+use Rattle.judge.specs.Turning.{WalkedIs}
 use Rattle.judge.specs.declared.arrival.Arrival.{Arrival}
 use Rattle.judge.specs.declared.arrival.Walked.{Walked}
 use Rattle.judge.proofs.RunLaws.{fold}
@@ -23,5 +25,6 @@ pub turn-even : {a : List ℕ} {z i to j : ℕ} → z ≡ sizeAt a i → to ≡ 
 turn-even {a} {z} {i} {to} {j} e t r = further (sym e) (subst (λ (k : ℕ). Even a z k j) t r)
 
 -- an answer that no walk gave
-pub told-at-once : {a : List ℕ} {r : Arrival} {w : Walked} → (w .answer ≡ r) × (w .stretch ≡ noStretch 0) → Judged a r → Judged a (w .answer) × StretchIs a (w .stretch)
-told-at-once (e, f) j = (rw e j, rw f over)
+pub told-at-once :
+    {p : List (List ℕ)} {a : List ℕ} {r : Arrival} {w : Walked} → (w .answer ≡ r) × (w .stretch ≡ noStretch 0) × (w .met ≡ 3307) → Judged a r → WalkedIs p a w
+told-at-once (e, f, m) j = record { said = rw e j; even = rw f over; meets = rw m P.over }

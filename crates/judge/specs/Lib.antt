@@ -1,7 +1,8 @@
 pub mod Table
 pub mod Step
+pub mod Stretch
+pub mod Profile
 pub mod Turning
 pub mod Extent
 pub mod Run
-pub mod Stretch
 pub mod Pending

@@ -12,9 +12,12 @@ use Rattle.mphr.specs.Table.{declared, total, Fine}
 use Rattle.mphr.specs.Table as M
 use Rattle.judge.specs.Table.{Site, site, first, oneMore, sizeAt, Sound, Leads, Fault, main, at, too-long, shown, Judged}
 use Rattle.judge.specs.Step.{Kept}
+use Rattle.judge.specs.Stretch.{StretchIs}
+use Rattle.judge.specs.Profile.{Meeting}
 use Rattle.judge.specs.declared.pointers.Pointers.{Pointers}
 use Rattle.judge.specs.declared.arrival.Arrival.{Arrival}
 use Rattle.judge.specs.declared.arrival.Arrival.the-variants.{Refused}
+use Rattle.judge.specs.declared.arrival.Walked.{Walked}
 use Rattle.judge.specs.declared.arrival.Turned.{Turned}
 use Rattle.judge.specs.declared.arrival.Turned.the-variants.{Stop, Go}
 
@@ -107,3 +110,9 @@ pub record Fewer (totals tally : List ℕ) : Type 0 where
 pub record FewerIs (totals tally : List ℕ) (r : Bool) : Type 0 where
   pub some : r ≡ true → Fewer totals tally
   pub none : r ≡ false → Fewer totals tally → ⊥
+
+-- what the walk gives: what is to be said, a stretch of records of one size, and how far the records meet the profile
+pub record WalkedIs (p : List (List ℕ)) (a : List ℕ) (r : Walked) : Type 0 where
+  pub said : Judged a (r .answer)
+  pub even : StretchIs a (r .stretch)
+  pub meets : Meeting p a 3307 (r .met)

@@ -10,6 +10,9 @@ use crate::pointers::Settled;
 use crate::pointers::close_record;
 use crate::pointers::no_pointers;
 use crate::pointers::settle;
+use crate::profile::met_on;
+use crate::profile::stride;
+use crate::run::lesser;
 use crate::run::run_of;
 use crate::stretch::Stretch;
 use crate::stretch::no_notes;
@@ -27,7 +30,8 @@ ghost use Rattle.mphr.specs.Table.{declared, total, Fine};
 ghost use Rattle.judge.specs.Table.{site, Judged};
 ghost use Rattle.judge.specs.Extent.{ExtentIs};
 ghost use Rattle.judge.specs.Stretch.{noStretch, StretchIs};
-ghost use Rattle.judge.specs.Turning.{Totals, Ready, TurnedIs, refusedAt, Begun, Walking, CountAt, Over, FewerIs};
+ghost use Rattle.judge.specs.Profile.{Meeting};
+ghost use Rattle.judge.specs.Turning.{Totals, Ready, TurnedIs, refusedAt, Begun, Walking, CountAt, Over, FewerIs, WalkedIs};
 
 pub enum Arrival {
     Waiting { count: usize, end: usize },
@@ -41,15 +45,18 @@ pub enum Extent {
     Refused(Refusal),
 }
 
-// What is to be said of an arrival, and a stretch of records of one size in it.
+// What is to be said of an arrival, a stretch of records of one size in it, and a byte up to which the records after the main header meet
+// a profile.
 pub struct Walked {
     pub answer: Arrival,
     pub stretch: Stretch,
+    pub met: usize,
 }
 
 pub struct Surveyed {
     pub extent: Extent,
     pub stretch: Stretch,
+    pub met: usize,
 }
 
 // What a record comes to.
@@ -167,9 +174,15 @@ fn ended(s: &[u8], totals: &[usize], tally: &[usize], d: usize, count: usize, pr
 }
 
 // The walk over the records after the main header, with a room for the pointers that are still to come.
-fn walk_on(s: &[u8], totals: &[usize], held: &mut [[u32; 3]], d: usize) -> Walked
+fn walk_on(
+    s: &[u8],
+    profile: &[[u8; 6]],
+    totals: &[usize],
+    held: &mut [[u32; 3]],
+    d: usize,
+) -> Walked
     requires { ⌜ Walking (now s) (now totals) d ⌝ }
-    ensures { λ r. ⌜ Judged (now (s .entry)) (r .answer) × StretchIs (now (s .entry)) (r .stretch) ⌝ }
+    ensures { λ r. ⌜ WalkedIs (now (profile .entry)) (now (s .entry)) r ⌝ }
 {
     let mut tally = [0usize, 1, 0, 0, 0, 0, 0, 0, 0];
     let mut count: usize = 1;
@@ -178,6 +191,8 @@ fn walk_on(s: &[u8], totals: &[usize], held: &mut [[u32; 3]], d: usize) -> Walke
     let mut w = no_pointers(d);
     let mut hold = no_hold(d);
     let mut notes = no_notes(at);
+    let mut met = at;
+    let most = stride(profile);
     // Once: a const array is copied where it is named.
     let follow = record::follow::FOLLOW;
     while at < d {
@@ -186,7 +201,11 @@ fn walk_on(s: &[u8], totals: &[usize], held: &mut [[u32; 3]], d: usize) -> Walke
         match turn(s, &follow, totals, &tally, d, count, at, prev, w) {
             Turned::Stop(answer) => {
                 let stretch = notes.longest;
-                return Walked { answer, stretch };
+                return Walked {
+                    answer,
+                    stretch,
+                    met,
+                };
             }
             Turned::Go {
                 to,
@@ -203,11 +222,12 @@ fn walk_on(s: &[u8], totals: &[usize], held: &mut [[u32; 3]], d: usize) -> Walke
                     to,
                     pointers.due,
                     d,
-                    totals[k] - n,
+                    lesser(totals[k] - n, most),
                 );
                 tally[k] = n + run.count;
                 count += 1 + run.count;
                 notes = noted(notes, at, to - at, run.end, 1 + run.count);
+                met = met_on(s, profile, met, at, to - at, run.end);
                 at = run.end;
                 prev = class;
                 w = pointers;
@@ -218,13 +238,14 @@ fn walk_on(s: &[u8], totals: &[usize], held: &mut [[u32; 3]], d: usize) -> Walke
     Walked {
         answer: ended(s, totals, &tally, d, count, prev),
         stretch,
+        met,
     }
 }
 
 // The room: a single pointer is in order, and needs none.
-fn walk(s: &[u8]) -> Walked
+fn walk(s: &[u8], profile: &[[u8; 6]]) -> Walked
     requires { ⌜ Begun (now s) ⌝ }
-    ensures { λ r. ⌜ Judged (now (s .entry)) (r .answer) × StretchIs (now (s .entry)) (r .stretch) ⌝ }
+    ensures { λ r. ⌜ WalkedIs (now (profile .entry)) (now (s .entry)) r ⌝ }
 {
     let d = size_of(s);
     if is_part(3307, d) {
@@ -234,24 +255,25 @@ fn walk(s: &[u8]) -> Walked
     put_totals(s, &mut totals);
     if totals[3] < 2 {
         let mut held = [[0u32; 3]; 1];
-        return walk_on(s, &totals, &mut held, d);
+        return walk_on(s, profile, &totals, &mut held, d);
     }
     let mut held = [[0u32; 3]; 256];
-    walk_on(s, &totals, &mut held, d)
+    walk_on(s, profile, &totals, &mut held, d)
 }
 
 // An answer that no walk gave.
 fn at_once(answer: Arrival) -> Walked
-    ensures { λ r. ⌜ (r .answer ≡ answer) × (r .stretch ≡ noStretch 0) ⌝ }
+    ensures { λ r. ⌜ (r .answer ≡ answer) × (r .stretch ≡ noStretch 0) × (r .met ≡ 3307) ⌝ }
 {
     Walked {
         answer,
         stretch: no_stretch(0),
+        met: 3307,
     }
 }
 
-fn judged(s: &[u8]) -> Walked
-    ensures { λ r. ⌜ Judged (now (s .entry)) (r .answer) × StretchIs (now (s .entry)) (r .stretch) ⌝ }
+fn judged(s: &[u8], profile: &[[u8; 6]]) -> Walked
+    ensures { λ r. ⌜ WalkedIs (now (profile .entry)) (now (s .entry)) r ⌝ }
 {
     match mphr::faults::header_fault(s) {
         HeaderFault::Refused(r) => at_once(Arrival::Refused(r)),
@@ -259,16 +281,20 @@ fn judged(s: &[u8]) -> Walked
             if s.len() < 3307 {
                 return at_once(Arrival::Waiting { count: 0, end: 0 });
             }
-            walk(s)
+            walk(s, profile)
         }
     }
 }
+
+// A profile is lent where one is asked for; of this one no line is.
+const NO_PROFILE: [[u8; 6]; 1] = [[0; 6]];
 
 // What is to be said of an arrival: a refusal of 1 to 16, or waiting, with the whole records and the end of the last.
 pub fn judge_arrival(s: &[u8]) -> Arrival
     ensures { λ r. ⌜ Judged (now (s .entry)) r ⌝ }
 {
-    judged(s).answer
+    let none: usize = 0;
+    judged(s, &NO_PROFILE[..none]).answer
 }
 
 // The same refusals; else whether each byte has come of the main header and of the size that it declares.
@@ -290,21 +316,26 @@ fn extent_of(s: &[u8], answer: Arrival) -> Extent
     }
 }
 
-// The extent of an arrival, and a stretch of records of one size in it, whose sizes need not be read again.
-pub fn survey(s: &[u8]) -> Surveyed
-    ensures { λ r. ⌜ ExtentIs (now (s .entry)) (r .extent) × StretchIs (now (s .entry)) (r .stretch) ⌝ }
+// The extent of an arrival; a stretch of records of one size in it, whose sizes need not be read again; and a byte up to which its records
+// after the main header meet the profile, which need not be asked again.
+pub fn survey(s: &[u8], profile: &[[u8; 6]]) -> Surveyed
+    ensures { λ r. ⌜ ExtentIs (now (s .entry)) (r .extent) × StretchIs (now (s .entry)) (r .stretch)
+        × Meeting (now (profile .entry)) (now (s .entry)) 3307 (r .met) ⌝ }
 {
-    let walked = judged(s);
+    let walked = judged(s, profile);
     let answer = walked.answer;
     let stretch = walked.stretch;
+    let met = walked.met;
     Surveyed {
         extent: extent_of(s, answer),
         stretch,
+        met,
     }
 }
 
 pub fn judge_extent(s: &[u8]) -> Extent
     ensures { λ r. ⌜ ExtentIs (now (s .entry)) r ⌝ }
 {
-    survey(s).extent
+    let none: usize = 0;
+    survey(s, &NO_PROFILE[..none]).extent
 }

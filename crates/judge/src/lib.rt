@@ -6,6 +6,7 @@ mod header;
 pub mod parts;
 mod pending;
 mod pointers;
+pub mod profile;
 mod run;
 pub mod stretch;
 mod times;

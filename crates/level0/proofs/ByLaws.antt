@@ -14,7 +14,8 @@ use Rattle.judge.specs.Extent.{Short, Complete, Covered}
 use Rattle.finish.specs.Finish.{starts, put, Refuses, FinishedIs, RefusesBy, against, AcceptsBy, RowsBy}
 use Rattle.finish.specs.Finish as F
 use Rattle.finish.specs.Rows.{rowsOf}
-use Rattle.finish.specs.Profile.{isAllowed, firstAgainst}
+use Rattle.judge.specs.Profile.{isAllowed}
+use Rattle.finish.specs.Profile.{firstAgainst}
 use Rattle.finish.specs.declared.profile.Against.{Against}
 use Rattle.finish.specs.declared.profile.Against.the-variants.{Nowhere, At}
 use Rattle.finish.specs.declared.Finished.{Finished}

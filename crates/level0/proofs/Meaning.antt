@@ -12,7 +12,7 @@ use lib.Dec.{eqb, leb}
 use Rattle.record.proofs.FieldLaws.{both}
 use Rattle.judge.specs.Table.{classAt}
 use Rattle.finish.specs.Rows.{groupAt, subclassAt, versionAt}
-use Rattle.finish.specs.Profile.{isLet, allows, isAllowed}
+use Rattle.judge.specs.Profile.{isLet, allows, isAllowed}
 use Rattle.level0.specs.Profile.{level0, OfLevel0}
 
 -- ---- tests

@@ -37,7 +37,7 @@ returns c =
     by-verdict (now (S j .args .profile)) (now (S j .args .s)) _ (j .judged .result) _ (c .enum-told .given .1) (told j (j .judged .result) refl)
 
 first-against-requires : tie.Need-first-against-requires
-first-against-requires c κs = let e = entire c in product-going (e .0) (e .1)
+first-against-requires c κs = let e = entire c in (product-going (e .0) (e .1), J c .before .before .survey .ensures .2)
 
 put-rows-requires : tie.Need-put-rows-requires
 put-rows-requires c κs =

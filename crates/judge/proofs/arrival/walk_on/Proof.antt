@@ -14,7 +14,9 @@ use Rattle.judge.specs.Table.{Site, site, oneMore}
 use Rattle.judge.specs.Step.{Kept}
 use Rattle.judge.specs.Turning.{Turn, Ready, Gone, Walking, TurnedIs}
 use Rattle.judge.specs.Pending.{HoldIs}
-use Rattle.judge.specs.Stretch.{over, NotesAre, noNotes}
+use Rattle.judge.specs.Stretch.{Even, over, NotesAre, noNotes}
+use Rattle.judge.specs.Profile.{Meeting}
+use Rattle.judge.specs.Profile as P
 use Rattle.judge.specs.declared.stretch.Notes.{Notes}
 use Rattle.judge.specs.declared.pointers.Pointers.{Pointers}
 use Rattle.judge.specs.declared.arrival.Turned.{Turned}
@@ -28,14 +30,14 @@ use Rattle.judge.proofs.arrival.walk_on.Statement.{statement}
 use Rattle.judge.proofs.arrival.walk_on.Tie as tie
 
 abbrev Inv-loop : tie.InvT-loop
-Inv-loop s totals held₀ d tally₀ count₀ at₀ prev₀ w₀ hold₀ notes₀ follow held tally count at prev w hold notes =
-    Turn s (site count at prev tally) × Kept s at w × Ruled follow × HoldIs s at held hold × (length held ≡ length held₀) × NotesAre s notes × (notes .last .count ≤ at)
+Inv-loop s profile totals held₀ d tally₀ count₀ at₀ prev₀ w₀ hold₀ notes₀ met₀ most follow held tally count at prev w hold notes met =
+    Turn s (site count at prev tally) × Kept s at w × Ruled follow × HoldIs s at held hold × (length held ≡ length held₀) × NotesAre s notes × (notes .last .count ≤ at) × Meeting profile s 3307 met
 
 abbrev μ-loop : tie.MeasureT-loop
-μ-loop s totals held₀ d tally₀ count₀ at₀ prev₀ w₀ hold₀ notes₀ follow held tally count at prev w hold notes = d - at
+μ-loop s profile totals held₀ d tally₀ count₀ at₀ prev₀ w₀ hold₀ notes₀ met₀ most follow held tally count at prev w hold notes met = d - at
 
 abbrev St : tie.At-loop Inv-loop μ-loop → tie.Start Inv-loop μ-loop
-St c = c .before .before .before .before .before .before
+St c = c .before .before .before .before .before .before .before
 
 abbrev a : tie.At-loop Inv-loop μ-loop → List ℕ
 a c = now (St c .args .s)
@@ -92,32 +94,36 @@ reached c = omega (arith, gone c .fewer, walking (L c) .totals .same (class c) (
 
 -- after the run
 abbrev K : tie.After-run-of Inv-loop μ-loop → tie.After-known-told2 Inv-loop μ-loop
-K c = c .before .before .before
+K c = c .before .before .before .before
 
 ran : (c : tie.After-run-of Inv-loop μ-loop) → After (a (L (K c))) (L (K c) .loop .count + 1) (class (K c)) (oneMore (L (K c) .loop .tally) (class (K c))) (pointers (K c)) (c .run-of .result .count) (c .run-of .result .end)
 ran c =
     let k = K c in
     let y = walking (L k) in
-    run-on (y .d-is) (y .small) (y .totals) (gone k .turn) (gone k .kept) (omega (arith, reached k, getD-set-same (L k .loop .tally) (class k) (n k) 0 (below k))) (c .run-of .ensures (L k .loop .inv .2))
+    run-on (y .d-is) (y .small) (y .totals) (gone k .turn) (gone k .kept) (omega (arith, reached k, c .before .lesser .ensures .0, getD-set-same (L k .loop .tally) (class k) (n k) 0 (below k))) (c .run-of .ensures (L k .loop .inv .2))
 
 counted : (c : tie.After-run-of Inv-loop μ-loop) → (to (K c) + c .run-of .result .count ≤ c .run-of .result .end) × (c .run-of .result .end ≤ d (L (K c))) × (n (K c) + c .run-of .result .count ≤ getD (ts (L (K c))) (class (K c)) 0)
 counted c =
     let k = K c in
     let r = c .run-of .ensures (L k .loop .inv .2) in
     let l = run-le r in
-    (omega (arith, l .0), run-within r (omega (arith, gone k .turn .inside, walking (L k))), omega (arith, l .1, reached k))
+    (omega (arith, l .0), run-within r (omega (arith, gone k .turn .inside, walking (L k))), omega (arith, l .1, c .before .lesser .ensures .0, reached k))
 
 -- the stretch goes on
 abbrev R : tie.After-struct-known3 Inv-loop μ-loop → tie.After-run-of Inv-loop μ-loop
 R c = c .before .before .before
 
+evenly : (f : tie.After-run-of Inv-loop μ-loop) → Even (a (L (K f))) (to (K f) - L (K f) .loop .at) (L (K f) .loop .at) (f .run-of .result .end)
+evenly f =
+    let k = K f in
+    let g = gone k in
+    turn-even (omega (arith, g .to-is)) (omega (arith, g .further)) (run-even (f .run-of .ensures (L k .loop .inv .2)))
+
 grows : (c : tie.After-noted Inv-loop μ-loop) → NotesAre (a (L (K (R (c .before))))) (c .noted .result)
 grows c =
     let f = R (c .before) in
-    let k = K f in
-    let l = L k in
-    let g = gone k in
-    c .noted .ensures .even (a l) (l .loop .inv .5) (turn-even (omega (arith, g .to-is)) (omega (arith, g .further)) (run-even (f .run-of .ensures (l .loop .inv .2))))
+    let l = L (K f) in
+    c .noted .ensures .even (a l) (l .loop .inv .5) (evenly f)
 
 -- no record yet
 none-yet : {a : List ℕ} {i : ℕ} {r : Notes} → r ≡ noNotes i → NotesAre a r
@@ -129,15 +135,16 @@ counts e = ap (λ (r : Notes). r .last .count) e
 loop-holds : tie.Need-loop-holds Inv-loop μ-loop
 unfolding firstAfter mayFollow
 loop-holds c =
-    let s = c .before .before .before .before .before in
+    let s = c .before .before .before .before .before .before in
     let y = s .pre in (
       turn-first (y .begun .clean) (y .begun .come) (λ h. let n = y .not-part (omega (arith, y .d-is)) in omega (arith, y .d-is)),
-      subst (Kept (now (s .args .s)) 3307) (sym (c .before .before .no-pointers .ensures)) (kept-first (y .begun .come)),
+      subst (Kept (now (s .args .s)) 3307) (sym (c .before .before .before .no-pointers .ensures)) (kept-first (y .begun .come)),
       ruled _ tt,
-      subst (HoldIs (now (s .args .s)) 3307 (now (s .args .held))) (sym (c .before .no-hold .ensures)) none-held,
+      subst (HoldIs (now (s .args .s)) 3307 (now (s .args .held))) (sym (c .before .before .no-hold .ensures)) none-held,
       refl,
-      none-yet (c .no-notes .ensures),
-      omega (arith, counts (c .no-notes .ensures)),
+      none-yet (c .before .no-notes .ensures),
+      omega (arith, counts (c .before .no-notes .ensures)),
+      P.over,
     )
 
 ease-requires : tie.Need-ease-requires Inv-loop μ-loop
@@ -155,7 +162,8 @@ returns : tie.Need-returns Inv-loop μ-loop
 returns c =
     let w = c .before .before in
     let t = w .before .before in
-    (told t (Stop (w .answer .given .0 .0)) (w .answer .given .1), A (T t) .loop .inv .5 .longest)
+    let i = A (T t) .loop .inv in
+    record { said = told t (Stop (w .answer .given .0 .0)) (w .answer .given .1); even = i .5 .longest; meets = i .7 }
 
 cast-k : tie.Need-cast-k Inv-loop μ-loop
 cast-k c = record { fits = omega (arith, gone c .eight) }
@@ -172,14 +180,14 @@ add-n c = record { fits = omega (arith, gone c .fewer, walking (L c) .totals .sm
 sub-run-of : tie.Need-sub-run-of Inv-loop μ-loop
 sub-run-of c = omega (arith, gone (c .before) .further)
 
-mul-run-of : tie.Need-mul-run-of Inv-loop μ-loop
-mul-run-of c = omega (arith, gone (c .before) .eight)
+mul-lesser : tie.Need-mul-lesser Inv-loop μ-loop
+mul-lesser c = omega (arith, gone (c .before) .eight)
 
-shared-slice-read-run-of : tie.Need-shared-slice-read-run-of Inv-loop μ-loop
-shared-slice-read-run-of c = let k = c .before .before in omega (arith, gone k .eight, walking (L k) .totals .nine)
+shared-slice-read-lesser : tie.Need-shared-slice-read-lesser Inv-loop μ-loop
+shared-slice-read-lesser c = let k = c .before .before in omega (arith, gone k .eight, walking (L k) .totals .nine)
 
-sub-run-of-2 : tie.Need-sub-run-of-2 Inv-loop μ-loop
-sub-run-of-2 c = reached (c .before .before)
+sub-lesser : tie.Need-sub-lesser Inv-loop μ-loop
+sub-lesser c = reached (c .before .before)
 
 add-tally : tie.Need-add-tally Inv-loop μ-loop
 add-tally c = let k = K (c .before) in record { fits = omega (arith, counted (c .before) .2, walking (L k) .totals .same (class k) (gone k .eight), walking (L k) .totals .small (class k) (gone k .eight)) }
@@ -205,12 +213,21 @@ add-noted c = record { fits = omega (arith, counted (R c), walking (L (K (R c)))
 noted-requires : tie.Need-noted-requires Inv-loop μ-loop
 noted-requires c κs = let r = R c in let i = L (K r) .loop .inv in omega (arith, i .6, counted r, i .0 .inside, walking (L (K r)))
 
+sub-met-on : tie.Need-sub-met-on Inv-loop μ-loop
+sub-met-on c = omega (arith, gone (K (R (c .before))) .further)
+
+met-on-requires : tie.Need-met-on-requires Inv-loop μ-loop
+met-on-requires c κs =
+    let f = R (c .before) in
+    let k = K f in
+    (L k .loop .inv .7, record { even = evenly f; least = omega (arith, gone k .further); come = ran f .0 .come })
+
 loop-less : tie.Need-loop-less Inv-loop μ-loop
-loop-less c = let r = R (c .before) in let k = K r in omega (arith, counted r .0, gone k .further, T (k .before .before .before) .before .before .loop-test .taken)
+loop-less c = let r = R (c .before .before) in let k = K r in omega (arith, counted r .0, gone k .further, T (k .before .before .before) .before .before .loop-test .taken)
 
 loop-again : tie.Need-loop-again Inv-loop μ-loop
 loop-again c =
-    let f = R (c .before) in
+    let f = R (c .before .before) in
     let k = K f in
     let e = T (k .before .before .before) in
     let r = f .run-of .result in
@@ -221,8 +238,9 @@ loop-again c =
       v .2,
       later {i = to k} (omega (arith, counted f .0)) (rw (gone k .to-is) (e .ease .ensures .hold)),
       e .ease .ensures .same ∙ v .4,
-      grows c,
-      omega (arith, c .noted .ensures .counted, v .6, counted f .0, gone k .further),
+      grows (c .before),
+      omega (arith, c .before .noted .ensures .counted, v .6, counted f .0, gone k .further),
+      c .met-on .ensures,
     )
 
 ended-requires : tie.Need-ended-requires Inv-loop μ-loop
@@ -231,7 +249,7 @@ ended-requires c κs =
     over-at (walking l .d-is) (omega (arith, c .before .before .loop-test .left, l .loop .inv .0 .inside, walking l)) (walking l .totals) (l .loop .inv .0)
 
 returns-2 : tie.Need-returns-2 Inv-loop μ-loop
-returns-2 c = (c .ended .ensures, c .before .before .before .before .loop .inv .5 .longest)
+returns-2 c = let i = c .before .before .before .before .loop .inv in record { said = c .ended .ensures; even = i .5 .longest; meets = i .7 }
 
 pub walk-on-spec : {M : Type 1} → statement M
 walk-on-spec =
@@ -239,6 +257,7 @@ walk-on-spec =
     (tie.spec
     Inv-loop
     μ-loop
+    (λ c κs. search needs)
     (λ c κs. search needs)
     (λ c κs. search needs)
     (λ c κs. search needs)
@@ -255,9 +274,10 @@ walk-on-spec =
     array-read-n
     add-n
     sub-run-of
-    mul-run-of
-    shared-slice-read-run-of
-    sub-run-of-2
+    mul-lesser
+    shared-slice-read-lesser
+    sub-lesser
+    (λ c κs. search needs)
     (λ c κs. search needs)
     add-tally
     mul-tally
@@ -267,6 +287,8 @@ walk-on-spec =
     sub-noted
     add-noted
     noted-requires
+    sub-met-on
+    met-on-requires
     loop-less
     loop-again
     (λ c. search needs)

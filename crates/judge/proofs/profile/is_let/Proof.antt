@@ -1,12 +1,12 @@
--- `finish::profile::is_let` meets its contract: each test is one of the line's. Assumes nothing.
+-- `judge::profile::is_let` meets its contract: each test is one of the line's. Assumes nothing.
 use Prim.Native.Nat.{ℕ}
 use mathlib.Core.Path.{_≡_, refl}
 use borrow.Author.Needs.{needs}
 use borrow.Author.Tests.{eq-eqb, ne-eqb, le-leb, lt-leb}
 use lib.Dec.{eqb, leb}
-use Rattle.finish.specs.Profile.{isLet}
-use Rattle.finish.proofs.profile.is_let.Statement.{statement}
-use Rattle.finish.proofs.profile.is_let.Tie as tie
+use Rattle.judge.specs.Profile.{isLet}
+use Rattle.judge.proofs.profile.is_let.Statement.{statement}
+use Rattle.judge.proofs.profile.is_let.Tie as tie
 
 returns : tie.Need-returns
 unfolding isLet

@@ -1,4 +1,4 @@
--- `finish::profile::is_spoken` meets its contract: what the lines that are left say is what all say. Assumes nothing.
+-- `judge::profile::is_spoken` meets its contract: what the lines that are left say is what all say. Assumes nothing.
 use Prim.Native.Nat.{_-_, _≤_}
 use native.Mathlib.Omega.{arith}
 use mathlib.Core.Path.{_≡_, sym, ap, _∙_}
@@ -6,10 +6,10 @@ use mathlib.Core.List.{List}
 use Prim.Native.Nat.{ℕ}
 use lib.ListN.{length, drop}
 use borrow.Author.Needs.{needs}
-use Rattle.finish.specs.Profile.{speaks}
-use Rattle.finish.proofs.ProfileLaws.{spoken-yes, spoken-no, spoken-over, all-lines}
-use Rattle.finish.proofs.profile.is_spoken.Statement.{statement}
-use Rattle.finish.proofs.profile.is_spoken.Tie as tie
+use Rattle.judge.specs.Profile.{speaks}
+use Rattle.judge.proofs.ProfileLaws.{spoken-yes, spoken-no, spoken-over, all-lines}
+use Rattle.judge.proofs.profile.is_spoken.Statement.{statement}
+use Rattle.judge.proofs.profile.is_spoken.Tie as tie
 
 abbrev Inv-loop : tie.InvT-loop
 Inv-loop profile class i₀ i = (i ≤ length profile) × (speaks (drop i profile) class ≡ speaks profile class)

@@ -1,14 +1,14 @@
--- `finish::profile::line_for` meets its contract: no line before `i` lets the record through. Assumes nothing.
+-- `judge::profile::line_for` meets its contract: no line before `i` lets the record through. Assumes nothing.
 use Prim.Native.Nat.{ℕ, _-_, _≤_}
 use native.Mathlib.Omega.{arith}
 use mathlib.Core.Path.{_≡_, sym, ap, _∙_}
 use mathlib.Core.List.{List}
 use lib.ListN.{length, drop}
 use borrow.Author.Needs.{needs}
-use Rattle.finish.specs.Profile.{lets}
-use Rattle.finish.proofs.ProfileLaws.{line-no, lines-over, all-lines}
-use Rattle.finish.proofs.profile.line_for.Statement.{statement}
-use Rattle.finish.proofs.profile.line_for.Tie as tie
+use Rattle.judge.specs.Profile.{lets}
+use Rattle.judge.proofs.ProfileLaws.{line-no, lines-over, all-lines}
+use Rattle.judge.proofs.profile.line_for.Statement.{statement}
+use Rattle.judge.proofs.profile.line_for.Tie as tie
 
 abbrev Inv-loop : tie.InvT-loop
 Inv-loop profile class group subclass version i₀ i =

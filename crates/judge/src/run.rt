@@ -54,10 +54,7 @@ fn is_like(s: &[u8], follow: &[[bool; 8]; 8], class: u8, size: usize, at: usize)
     if !may_follow(follow, class, s[at]) {
         return false;
     }
-    if !record::header::is_group(s[at + 1]) {
-        return false;
-    }
-    crate::times::surely_stand(s, at)
+    record::header::is_group(s[at + 1]) & crate::times::surely_stand(s, at)
 }
 
 // A record of the size fits between `at` and the limit, and the one at `at` has that size. Where sizes differ from each record to the next,

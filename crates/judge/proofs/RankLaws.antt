@@ -153,8 +153,8 @@ known a i e f u = clash (sym u ∙ both-known e f)
 pub no-class : (a : List ℕ) (i : ℕ) → isClass (getD a i 0) ≡ false → Unknown a i
 no-class a i e = ap (λ (b : Bool). b && isGroup (getD a (i + 1) 0)) e
 
-pub no-group : (a : List ℕ) (i : ℕ) → isClass (getD a i 0) ≡ true → isGroup (getD a (i + 1) 0) ≡ false → Unknown a i
-no-group a i e f = rw (e, f)
+pub not-known : (a : List ℕ) (i : ℕ) {b d : Bool} → b ≡ isClass (getD a i 0) → d ≡ isGroup (getD a (i + 1) 0) → b && d ≡ false → Unknown a i
+not-known a i e f n = rw (e, f) at n
 
 -- 1 to 19 bytes are left, or not
 pub part-is : (at d : ℕ) → ltb at d && ltb d (at + 20) ≡ true → (at < d) × (d < at + 20)

@@ -12,7 +12,7 @@ use lib.ListN.{length, getD}
 use Rattle.mphr.specs.Table.{declared}
 use Rattle.judge.specs.Table.{Site, site, first, classAt, sizeAt, aimAt, offsetAt, kindAt, oneMore, Sound, Leads, here, on, next, Target}
 use Rattle.judge.specs.declared.pointers.Pointers.{Pointers}
-use Rattle.judge.specs.Step.{Started, any, Points, FirstPointer, Quiet, Scan, Met, Beyond, Looking, Rising, Order, Kept, Search, Settling, Follows, JoinedIs, Calm, ClearIs}
+use Rattle.judge.specs.Step.{Started, any, Points, FirstPointer, Quiet, Scan, Met, Beyond, Looking, Rising, Order, Kept, Search, NextIs, Settling, Follows, JoinedIs, Calm, ClearIs}
 use Rattle.judge.proofs.WayLaws.{leads-le, snoc, goes, linear, met, near, ends-by}
 
 -- the same pointer, for other bounds and any kind
@@ -256,3 +256,63 @@ clear-still k h =
 
 pub of-kind : {a : List ℕ} {e lo hi k k′ u : ℕ} → k ≡ k′ → FirstPointer a e lo hi k u → FirstPointer a e lo hi k′ u
 of-kind e f = rw e at f
+
+-- ---- the pointer at the cursor names the record, and the next record is a pointer further on: two looks are each of the searches
+-- the record after a pointer at i has come as far as it is looked at
+pub looking-next : {a : List ℕ} {e i hi q : ℕ} → Scan a e i hi any q → classAt a q ≡ 3 → offsetAt a q ≡ i → q + 27 < e → Looking a (q + 27)
+looking-next {i = i} s o t h =
+    let g = scan-narrow {lo′ = i + 1} (omega arith) (le-refl _) s in
+    looking (scan-pass {k = any} g (omega arith) (λ m. omega (arith, m .above)) 27 (scan-ipr s (omega arith) o)) h
+
+module _ {a : List ℕ} {w : Pointers} {i to d r : ℕ} (k : Settling a w i to d) (n : NextIs a w i to r) where
+  abbrev kept-cursor : Scan a (w .end) i (declared a) any (w .from)
+  kept-cursor = k .kept .cursor
+
+  rises : Rising a (w .end)
+  rises = k .kept .order (n .rises) .rising
+
+  inside : w .from < w .end
+  inside = omega (arith, n .place, n .before)
+
+  at-cursor : Points a (w .end) i (declared a) any (spot kept-cursor)
+  at-cursor = met-here kept-cursor inside (record { ipr = n .names .ipr; above = omega (arith, n .names .target); below = omega (arith, n .names .target, k .least, k .most, k .d-is); unlike = λ u. absurd (omega arith) })
+
+  -- whatever the bound: no pointer before the cursor points past D, since the one at the cursor does not
+  wide-cursor : {hi : ℕ} → Scan a (w .end) i hi any (w .from)
+  wide-cursor = record {
+    count = kept-cursor .count;
+    prev = kept-cursor .prev;
+    tally = kept-cursor .tally;
+    way = kept-cursor .way;
+    goal = kept-cursor .goal;
+    ahead = kept-cursor .ahead;
+    rest = λ p u. ⊎-elim (λ l. l) (λ l. kept-cursor .rest p (bounded u (u .before) (u .above) (omega (arith, at-cursor .below, rises .rise p (spot kept-cursor) u at-cursor (leads-le l))))) (linear (kept-cursor .way) (u .way));
+  }
+
+  passed : {lo hi j : ℕ} → i ≤ lo → (Met a (w .from) lo hi j → ⊥) → Scan a (w .end) lo hi j r
+  passed l nay = rw (n .place) (scan-pass (scan-narrow l (le-refl _) wide-cursor) inside nay 27 (scan-ipr kept-cursor inside (n .names .ipr)))
+
+  two-looks : {lo hi j : ℕ} → i ≤ lo → hi ≤ offsetAt a r → (Met a (w .from) lo hi j → ⊥) → Quiet a (w .end) lo hi j
+  two-looks l h nay = scan-stop (passed l nay) rises (n .before) (n .ipr) h .none refl
+
+  past : {lo hi : ℕ} → i < lo → Met a (w .from) lo hi any → ⊥
+  past l m = omega (arith, m .above, n .names .target)
+
+  after : Scan a (w .end) to (declared a) any r
+  after = passed (omega (arith, k .least)) (past (omega (arith, k .least)))
+
+  pub next-room : r + 27 ≤ length a
+  next-room = looking after (n .before) .ipr (n .ipr)
+
+  pub clear-next : {due : ℕ} → due ≡ offsetAt a r → ClearIs a w i to (record { end = w .end; due = due; from = r; last = w .last; rising = w .rising })
+  clear-next e = record {
+    inside = two-looks (omega arith) (n .over) (past (omega arith));
+    other = two-looks (le-refl _) (omega (arith, n .over, k .least)) (λ m. m .unlike (n .small) (n .names .kind));
+    follows = record {
+      quiet = rw e (two-looks (omega (arith, k .least)) (le-refl _) (past (omega (arith, k .least))));
+      cursor = after;
+      end-is = refl;
+      last-is = refl;
+      rising-is = refl;
+    };
+  }

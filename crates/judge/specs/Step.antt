@@ -207,6 +207,23 @@ pub record Settling (a : List ℕ) (w : Pointers) (i to d : ℕ) : Type 0 where
   pub come : i + 20 ≤ length a
   pub d-is : d ≡ declared a
 
+-- the record at byte q is a pointer at the record at byte i, and of its kind
+pub record Names (a : List ℕ) (q i : ℕ) : Type 0 where
+  pub ipr : classAt a q ≡ 3
+  pub target : offsetAt a q ≡ i
+  pub kind : aimAt a q ≡ kindAt a i
+
+-- the targets never descend, the pointer at the cursor names the record at byte i, and the record right after that pointer, at byte r, is a
+-- pointer at `to` or further on
+pub record NextIs (a : List ℕ) (w : Pointers) (i to r : ℕ) : Type 0 where
+  pub rises : w .rising ≡ true
+  pub names : Names a (w .from) i
+  pub small : kindAt a i < any
+  pub place : r ≡ w .from + 27
+  pub before : r < w .end
+  pub ipr : classAt a r ≡ 3
+  pub over : to ≤ offsetAt a r
+
 -- the pointers, once those that point before `to` are done with
 pub record Follows (a : List ℕ) (w : Pointers) (to : ℕ) (v : Pointers) : Type 0 where
   pub quiet : Quiet a (w .end) to (v .due) any

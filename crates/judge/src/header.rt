@@ -108,10 +108,9 @@ pub(crate) fn rank_in(
     if is_six(class, size, left) {
         return 6;
     }
-    if !record::header::is_class(class) {
-        return 7;
-    }
-    if !record::header::is_group(s[at + 1]) {
+    // Both at once: which of the groups it is cannot be guessed.
+    let known = record::header::is_class(class) & record::header::is_group(s[at + 1]);
+    if !known {
         return 7;
     }
     if !may_follow(follow, prev, class) {

@@ -9,7 +9,7 @@ ghost use Prim.Native.Nat.{_+_, _≤_, _<_};
 ghost use lib.ListN.{length};
 ghost use Rattle.mphr.specs.Table.{declared};
 ghost use Rattle.judge.specs.Table.{Target};
-ghost use Rattle.judge.specs.Step.{FirstPointer, Looking, LookIs, Search, Settling, SettledIs, Follows};
+ghost use Rattle.judge.specs.Step.{FirstPointer, Looking, LookIs, Search, Kept, NextIs, Settling, SettledIs, Follows};
 ghost use Rattle.judge.specs.Step.{noPointers, JoinedIs, BodyIs, Bodied, TargetIs};
 
 // What is known of the pointer records met so far: where the last of them ends; a byte before which none of them points further on;
@@ -141,6 +141,38 @@ fn follow(s: &[u8], w: Pointers, to: usize, d: usize) -> Pointers
     v
 }
 
+// The plain case, in two looks: the targets never descend, the pointer at the cursor names the record from `at` up to `to`, and the record
+// right after it is a pointer further on, whose place this is; or 0.
+fn next_after(s: &[u8], w: Pointers, at: usize, to: usize) -> usize
+    requires { ⌜ Kept (now s) at w × (at + 20 ≤ length (now s)) ⌝ }
+    ensures { λ r. ⌜ ((r ≡ 0 → ⊥) → NextIs (now (s .entry)) w at to r) ⌝ }
+{
+    if !w.rising {
+        return 0;
+    }
+    let q = w.from;
+    let next = q + 27;
+    if w.end <= next {
+        return 0;
+    }
+    if s[q] != 3 {
+        return 0;
+    }
+    if word(s, q + 23) != at {
+        return 0;
+    }
+    if triple(s, q + 20) != triple(s, at) {
+        return 0;
+    }
+    if s[next] != 3 {
+        return 0;
+    }
+    if word(s, next + 23) < to {
+        return 0;
+    }
+    next
+}
+
 // The pointers are looked through only where one may point at the record.
 pub(crate) fn settle(s: &[u8], w: Pointers, at: usize, to: usize, d: usize) -> Settled
     requires { ⌜ Settling (now s) w at to d ⌝ }
@@ -148,6 +180,13 @@ pub(crate) fn settle(s: &[u8], w: Pointers, at: usize, to: usize, d: usize) -> S
 {
     if to <= w.due {
         return Settled::Clear(w);
+    }
+    let next = next_after(s, w, at, to);
+    if next != 0 {
+        let mut v = w;
+        v.due = word(s, next + 23);
+        v.from = next;
+        return Settled::Clear(v);
     }
     let inside = pointer(s, w.from, w.end, w.rising, at + 1, to, ANY);
     if inside != 0 {

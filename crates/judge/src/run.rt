@@ -54,10 +54,22 @@ fn is_like(s: &[u8], follow: &[[bool; 8]; 8], class: u8, size: usize, at: usize)
     if !may_follow(follow, class, s[at]) {
         return false;
     }
-    if !record::header::is_group(s[at + 1]) {
+    record::header::is_group(s[at + 1]) & crate::times::surely_stand(s, at)
+}
+
+// A record of the size fits between `at` and the limit, and the one at `at` has that size. Where sizes differ from each record to the next,
+// this is all that is done for a run.
+fn is_next(s: &[u8], size: usize, at: usize, limit: usize) -> bool
+    requires { ⌜ (20 ≤ size) × (limit ≤ length (now s)) ⌝ }
+    ensures { λ r. ⌜ (r ≡ true → at + size ≤ limit) ⌝ }
+{
+    if limit < at {
         return false;
     }
-    crate::times::surely_stand(s, at)
+    if limit - at < size {
+        return false;
+    }
+    word(s, at + 4) == size
 }
 
 // The run of records of the class and the size from `at` on, at most `most` of them: all have come, no pointer is due before the end of
@@ -80,18 +92,19 @@ pub fn run_of(
         return Run { count, end };
     }
     let limit = lesser(lesser(due, s.len()), d - 20);
-    if limit < at {
+    if !is_next(s, size, at, limit) {
         return Run { count, end };
     }
     while count < most {
-        if limit - end < size {
+        let next = end + size;
+        if limit < next {
             return Run { count, end };
         }
         if !is_like(s, follow, class, size, end) {
             return Run { count, end };
         }
         count += 1;
-        end += size;
+        end = next;
     }
     Run { count, end }
 }

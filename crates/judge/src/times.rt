@@ -23,43 +23,32 @@ fn is_sure(day: usize, milli: usize) -> bool
     ensures { λ r. ⌜ (r ≡ true → isTime (timeOf (day * 0x1_0000_0000 + milli)) ≡ true) ⌝ }
 {
     let next = std::num::wrapping_add_u32(milli as u32, 1);
-    if EVERY_DAY < next {
-        return false;
-    }
-    if next != 0 {
-        return true;
-    }
-    day == 65535
+    (next <= EVERY_DAY) & ((next != 0) | (day == 65535))
 }
 
 // The first time is undefined, or not after the second: an undefined time is the greatest number.
 fn in_line(start: usize, stop: usize) -> bool
     ensures { λ r. ⌜ (r ≡ true → (start ≤ stop) ⊎ (start ≡ 0xffff_ffff_ffff)) ⌝ }
 {
-    if start <= stop {
-        return true;
-    }
-    start == UNDEFINED
+    (start <= stop) | (start == UNDEFINED)
 }
 
+// Both times for sure, and in line. (No branch comes before the last of these tests: whether a time is undefined cannot be guessed, and a
+// wrong guess costs more than all of them.)
 pub(crate) fn surely_stand(s: &[u8], at: usize) -> bool
     requires { ⌜ at + 20 ≤ length (now s) ⌝ }
     ensures { λ r. ⌜ (r ≡ true → timedAt (now (s .entry)) at ≡ true) ⌝ }
 {
     let day = pair(s, at + 8);
     let milli = word(s, at + 10);
-    if !is_sure(day, milli) {
-        return false;
-    }
     let other_day = pair(s, at + 14);
     let other_milli = word(s, at + 16);
-    if !is_sure(other_day, other_milli) {
-        return false;
-    }
-    in_line(
+    let sure = is_sure(day, milli) & is_sure(other_day, other_milli);
+    let lined = in_line(
         day * 0x1_0000_0000 + milli,
         other_day * 0x1_0000_0000 + other_milli,
-    )
+    );
+    sure & lined
 }
 
 pub(crate) fn stand(s: &[u8], at: usize) -> bool

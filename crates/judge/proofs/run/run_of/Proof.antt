@@ -3,6 +3,7 @@ use Prim.Native.Nat.{ℕ, _+_, _-_, _≤_, _<_}
 use native.Mathlib.Omega.{arith}
 use borrow.Author.Needs.{needs}
 use borrow.Author.Tests.{not-false}
+use denote.Ref.{now}
 use lib.ListN.{length}
 use Rattle.record.specs.Follow.{Ruled}
 use Rattle.judge.specs.Run.{Liking, Alike, none, more}
@@ -17,7 +18,7 @@ pub record Before (len due d limit : ℕ) : Type 0 where
 
 abbrev Inv-loop : tie.InvT-loop
 Inv-loop s follow class size at due d most count₀ end₀ limit count end =
-    (end ≤ limit) × Before (length s) due d limit × Liking class size × (Ruled follow → Alike s class size due d most at count end)
+    (end ≤ limit) × (size ≤ limit) × Before (length s) due d limit × Liking class size × (Ruled follow → Alike s class size due d most at count end)
 
 abbrev μ-loop : tie.MeasureT-loop
 μ-loop s follow class size at due d most count₀ end₀ limit count end = most - count
@@ -34,23 +35,34 @@ sub-lesser c = omega (arith, liked (c .before) .1)
 returns-2 : tie.Need-returns-2 Inv-loop μ-loop
 returns-2 c = λ _. none
 
+-- up to the limit all has come
+limit-come : (c : tie.After-lesser2 Inv-loop μ-loop) → Before (length (now (c .before .before .before .before .before .args .s))) (c .before .before .before .before .before .args .due) (c .before .before .before .before .before .args .d) (c .lesser2 .result)
+limit-come c =
+    let m = c .lesser2 .ensures in
+    let l = c .before .lesser .ensures in
+    record { come = omega (arith, m .0, l .1); due-after = omega (arith, m .0, l .0); left = omega (arith, m .1, liked (c .before .before) .1) }
+
+is-next-requires : tie.Need-is-next-requires Inv-loop μ-loop
+is-next-requires c κs = (liked (c .before .before) .0 .least, limit-come c .come)
+
 loop-holds : tie.Need-loop-holds Inv-loop μ-loop
 loop-holds c =
-    let m = c .before .lesser2 .ensures in
-    let l = c .before .before .lesser .ensures in
-    let k = liked (c .before .before .before) in
-    (c .if2 .left, record { come = omega (arith, m .0, l .1); due-after = omega (arith, m .0, l .0); left = omega (arith, m .1, k .1) }, k .0, λ _. none)
+    let n = c .before .is-next .ensures (not-false (c .before .is-next .result) (c .if2 .left)) in
+    (omega (arith, n), omega (arith, n), limit-come (c .before .before), liked (c .before .before .before .before) .0, λ _. none)
+
+abbrev St : tie.In-loop Inv-loop μ-loop → tie.Start Inv-loop μ-loop
+St c = c .before .before .before .before .before .before .before .before .before
+
+add-next : tie.Need-add-next Inv-loop μ-loop
+add-next c = let i = c .before .loop .inv in record { fits = omega (arith, i .0, i .1, i .2 .come, St c .good) }
 
 is-like-requires : tie.Need-is-like-requires Inv-loop μ-loop
 is-like-requires c κs =
     let i = c .before .before .loop .inv in
-    (i .2, omega (arith, c .if3 .left, i .0, i .1 .come, i .2 .least))
+    (i .3, omega (arith, c .if3 .left, i .2 .come, i .3 .least))
 
 add-count : tie.Need-add-count Inv-loop μ-loop
-add-count c = let n = c .before .before .before in record { fits = omega (arith, n .loop-test .taken, n .before .before .before .before .before .before .before .before .fits .most) }
-
-add-end : tie.Need-add-end Inv-loop μ-loop
-add-end c = let e = c .before .before in let i = e .before .before .loop .inv in record { fits = omega (arith, e .if3 .left, i .0, i .1 .left, e .before .before .before .before .before .before .before .before .before .fits .d) }
+add-count c = let n = c .before .before .before in record { fits = omega (arith, n .loop-test .taken, St n .fits .most) }
 
 loop-less : tie.Need-loop-less Inv-loop μ-loop
 loop-less c = omega (arith, c .before .before .before .loop-test .taken)
@@ -60,10 +72,11 @@ loop-again c =
     let e = c .before .before in
     let n = e .before in
     let i = n .before .loop .inv in (
-      omega (arith, e .if3 .left, i .0),
+      e .if3 .left,
       i .1,
       i .2,
-      λ r. more (i .3 r) (n .loop-test .taken) (omega (arith, e .if3 .left, i .0, i .1 .due-after)) (omega (arith, e .if3 .left, i .0, i .1 .left)) (omega (arith, e .if3 .left, i .0, i .1 .come)) (c .before .is-like .ensures (not-false (c .before .is-like .result) (c .if4 .left)) r),
+      i .3,
+      λ r. more (i .4 r) (n .loop-test .taken) (omega (arith, e .if3 .left, i .2 .due-after)) (omega (arith, e .if3 .left, i .2 .left)) (omega (arith, e .if3 .left, i .2 .come)) (c .before .is-like .ensures (not-false (c .before .is-like .result) (c .if4 .left)) r),
     )
 
 pub run-of-spec : {M : Type 1} → statement M
@@ -77,14 +90,14 @@ run-of-spec =
     (λ c κs. search needs)
     sub-lesser
     (λ c κs. search needs)
+    is-next-requires
     returns-2
     loop-holds
-    (λ c. search needs)
+    add-next
     (λ c. search needs)
     is-like-requires
     (λ c. search needs)
     add-count
-    add-end
     loop-less
     loop-again
     (λ c. search needs))

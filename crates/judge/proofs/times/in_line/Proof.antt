@@ -1,18 +1,13 @@
--- `judge::times::in_line` meets its contract: each test that it passed. Assumes nothing.
-use mathlib.Core.Logic.{inl, inr}
-use borrow.Author.Tests.{eqb-true}
+-- `judge::times::in_line` meets its contract: one of its two tests. Assumes nothing.
+use mathlib.Core.Logic.{inl, inr, ⊎-elim}
+use lib.Dec.{leb, eqb}
+use borrow.Author.Tests.{leb-true, eqb-true}
+use Rattle.judge.proofs.TimesLaws.{or-true}
 use Rattle.judge.proofs.times.in_line.Statement.{statement}
 use Rattle.judge.proofs.times.in_line.Tie as tie
 
 returns : tie.Need-returns
-returns c = λ _. inl (c .if1 .taken)
-
-returns-2 : tie.Need-returns-2
-returns-2 c = λ e. inr (eqb-true _ _ e)
+returns c = λ e. ⊎-elim (λ l. inl (leb-true _ _ l)) (λ u. inr (eqb-true _ _ u)) (or-true (leb (c .args .start) (c .args .stop)) (eqb (c .args .start) 0xffff_ffff_ffff) e)
 
 pub in-line-spec : {M : Type 1} → statement M
-in-line-spec =
-    tie.close
-    (tie.spec
-    returns
-    returns-2)
+in-line-spec = tie.close (tie.spec returns)

@@ -1,6 +1,6 @@
 // The line of milliseconds, on which each of request Two's days has its extra second.
 ghost use mathlib.Core.Path.{_≡_};
-ghost use Prim.Native.Nat.{_-_, _/_, _%_, _≤_, _<_};
+ghost use Prim.Native.Nat.{_+_, _-_, _/_, _%_, _≤_, _<_};
 ghost use Rattle.meter.specs.Time.{timeOf};
 ghost use Rattle.month.specs.Moment.{extraBefore, onLine, undefinedBetween};
 ghost use Rattle.month.specs.Counting.{extraOf, BetweenIs};
@@ -67,18 +67,18 @@ fn unless(none: u64, x: u64, y: u64) -> u64
     y
 }
 
-// How much `x` is more than `y`, or 0.
-fn surplus(x: u64, y: u64) -> u64
-    ensures { λ r. ⌜ r ≡ x - y ⌝ }
+// The greater of the two.
+fn greater(x: u64, y: u64) -> u64
+    ensures { λ r. ⌜ r ≡ x + (y - x) ⌝ }
 {
-    if x <= y {
-        return 0;
+    if x < y {
+        return y;
     }
-    x - y
+    x
 }
 
 // One stop and the next start, by their 48 bits. Where one is undefined the start is taken for both. (Each number is picked, with no way out before: of
-// times in no order a branch would be guessed wrong.)
+// times in no order a branch would be guessed wrong. Two differences from the greater need one pick, which stays one on either machine.)
 pub(crate) fn time_between(stop: u64, start: u64) -> Between
     requires { ⌜ (stop < 281474976710656) × (start < 281474976710656) ⌝ }
     ensures { λ r. ⌜ BetweenIs (timeOf stop) (timeOf start) r ⌝ }
@@ -86,9 +86,10 @@ pub(crate) fn time_between(stop: u64, start: u64) -> Between
     let none = undefined_of(stop, start);
     let to = on_line(start);
     let from = unless(none, on_line(stop), to);
+    let end = greater(from, to);
     Between {
-        gap: surplus(to, from),
-        overlap: surplus(from, to),
+        gap: end - from,
+        overlap: end - to,
         undefined: none,
     }
 }

@@ -178,16 +178,32 @@ no-start stop start e = none-after (timeOf stop) (timeOf start) (bits-none start
 abbrev lineOf : ℕ → ℕ
 lineOf bits = onLine (bits / 0x1_0000_0000) (bits % 0x1_0000_0000)
 
-module _ (stop start x y : ℕ) (some-stop : stop ≡ 0xffff_ffff_ffff → ⊥) (some-start : start ≡ 0xffff_ffff_ffff → ⊥) (x-is : x ≡ lineOf stop) (y-is : y ≡ lineOf start) where
-  both-some : BetweenIs (timeOf stop) (timeOf start) (betweens (lineOf start - lineOf stop) (lineOf stop - lineOf start) 0)
-  both-some = rw (bits-some stop some-stop, bits-some start some-start) (record { gap = refl; overlap = refl; undefined = refl })
+pub both-some :
+    (stop start : ℕ) → (stop ≡ 0xffff_ffff_ffff → ⊥) → (start ≡ 0xffff_ffff_ffff → ⊥)
+    → BetweenIs (timeOf stop) (timeOf start) (betweens (lineOf start - lineOf stop) (lineOf stop - lineOf start) 0)
+both-some stop start some-stop some-start = rw (bits-some stop some-stop, bits-some start some-start) (record { gap = refl; overlap = refl; undefined = refl })
 
-  pub some-gap : x ≤ y → BetweenIs (timeOf stop) (timeOf start) (betweens (y - x) 0 0)
-  some-gap h =
-      let b = both-some in
-      record { gap = rw (x-is, y-is) (b .gap); overlap = (let z : 0 ≡ lineOf stop - lineOf start = omega arith in z ∙ b .overlap); undefined = b .undefined }
+below-greater : (x y : ℕ) {z : ℕ} → z ≡ x + (y - x) → (z - x ≡ y - x) × (z - y ≡ x - y)
+below-greater x y e = (omega arith, omega arith)
 
-  pub some-overlap : y < x → BetweenIs (timeOf stop) (timeOf start) (betweens 0 (x - y) 0)
-  some-overlap h =
-      let b = both-some in
-      record { gap = (let z : 0 ≡ lineOf start - lineOf stop = omega arith in z ∙ b .gap); overlap = rw (x-is, y-is) (b .overlap); undefined = b .undefined }
+-- with x and y on the line, and y for x where one is undefined; end is the greater
+module _ (stop start : ℕ) {x y none from end : ℕ} (x-is : x ≡ lineOf stop) (y-is : y ≡ lineOf start) (none-is : none ≡ undefinedBetween (timeOf stop) (timeOf start))
+    (from-is : (none ≡ 0 → from ≡ x) × (none ≡ 1 → from ≡ y)) (end-is : end ≡ from + (y - from)) where
+  not-both : BetweenIs (timeOf stop) (timeOf start) (betweens 0 0 1) → BetweenIs (timeOf stop) (timeOf start) (betweens (end - from) (end - y) none)
+  not-both b =
+      let e = from-is .1 (none-is ∙ sym (b .undefined)) in
+      let g : end - from ≡ 0 = omega arith in
+      let o : end - y ≡ 0 = omega arith in
+      record { gap = g ∙ b .gap; overlap = o ∙ b .overlap; undefined = none-is }
+
+  pub between-is : BetweenIs (timeOf stop) (timeOf start) (betweens (end - from) (end - y) none)
+  between-is = go (ℕ-discrete stop 0xffff_ffff_ffff) (ℕ-discrete start 0xffff_ffff_ffff)
+    where
+      go : Dec (stop ≡ 0xffff_ffff_ffff) → Dec (start ≡ 0xffff_ffff_ffff) → BetweenIs (timeOf stop) (timeOf start) (betweens (end - from) (end - y) none)
+      go (yes e) q = not-both (no-stop stop start e)
+      go (no d) (yes e) = not-both (no-start stop start e)
+      go (no d) (no f) =
+          let b = both-some stop start d f in
+          let e = from-is .0 (none-is ∙ sym (b .undefined)) ∙ x-is in
+          let p = below-greater from y end-is in
+          record { gap = p .0 ∙ rw (e, y-is) (b .gap); overlap = p .1 ∙ rw (e, y-is) (b .overlap); undefined = none-is }

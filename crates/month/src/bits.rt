@@ -1,8 +1,9 @@
-// The 48 bits of a time, and the class of a record.
+// The 48 bits of a time, and the class and size of a record.
 ghost use mathlib.Core.Path.{_≡_};
 ghost use Prim.Native.Nat.{_+_, _≤_, _<_};
 ghost use lib.ListN.{length};
 ghost use Rattle.meter.specs.Integer.{beAt};
+ghost use Rattle.demands.specs.Product.{size};
 
 fn wide(b: u8) -> u64
     ensures { λ r. ⌜ (r ≡ b) × (r < 256) ⌝ }
@@ -31,6 +32,14 @@ fn word(s: &[u8], at: usize) -> u64
     ensures { λ r. ⌜ (r ≡ beAt (now (s .entry)) at 4) × (r < 4294967296) ⌝ }
 {
     (pair(s, at) * 256 + wide(s[at + 2])) * 256 + wide(s[at + 3])
+}
+
+// The size in the header that starts at `at`.
+pub(crate) fn size_in(s: &[u8], at: usize) -> usize
+    requires { ⌜ at + 8 ≤ length (now s) ⌝ }
+    ensures { λ r. ⌜ r ≡ size (now (s .entry)) at ⌝ }
+{
+    word(s, at + 4) as usize
 }
 
 // The number in the 6 bytes from `at` on.

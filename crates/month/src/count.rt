@@ -1,8 +1,8 @@
 // What an accepted product adds to a report: one pass over its headers.
 use crate::bits::bits_at;
 use crate::bits::place;
+use crate::bits::size_in;
 use crate::moment::time_between;
-use record::header::size_at;
 ghost use mathlib.Core.Path.{_≡_};
 ghost use Prim.Native.Nat.{_+_, _<_};
 ghost use lib.ListN.{getD, set};
@@ -103,7 +103,7 @@ pub(crate) fn count_records(s: &[u8]) -> [u64; 38]
     };
     let mut at: usize = 0;
     while at < s.len() {
-        let size = size_at(s, at);
+        let size = size_in(s, at);
         let class = place(s[at]);
         raise(&mut records, class, 1);
         raise(&mut bytes, class, long(size));

@@ -1,8 +1,8 @@
 // The line of milliseconds, on which each of request Two's days has its extra second.
 ghost use mathlib.Core.Path.{_≡_};
-ghost use Prim.Native.Nat.{_/_, _%_, _≤_, _<_};
+ghost use Prim.Native.Nat.{_+_, _-_, _/_, _%_, _≤_, _<_};
 ghost use Rattle.meter.specs.Time.{timeOf};
-ghost use Rattle.month.specs.Moment.{extraBefore, onLine};
+ghost use Rattle.month.specs.Moment.{extraBefore, onLine, undefinedBetween};
 ghost use Rattle.month.specs.Counting.{extraOf, BetweenIs};
 
 // All 48 bits one.
@@ -44,37 +44,52 @@ fn on_line(bits: u64) -> u64
     day * 86_400_000 + extra_before(day) + bits % 0x1_0000_0000
 }
 
-// One stop and the next start, by their 48 bits.
+// 1 where one of the two is undefined.
+fn undefined_of(stop: u64, start: u64) -> u64
+    ensures { λ r. ⌜ r ≡ undefinedBetween (timeOf stop) (timeOf start) ⌝ }
+{
+    if stop == UNDEFINED {
+        return 1;
+    }
+    if start == UNDEFINED {
+        return 1;
+    }
+    0
+}
+
+// `x`, or `y` where `none` is 1.
+fn unless(none: u64, x: u64, y: u64) -> u64
+    ensures { λ r. ⌜ (none ≡ 0 → r ≡ x) × (none ≡ 1 → r ≡ y) ⌝ }
+{
+    if none == 0 {
+        return x;
+    }
+    y
+}
+
+// The greater of the two.
+fn greater(x: u64, y: u64) -> u64
+    ensures { λ r. ⌜ r ≡ x + (y - x) ⌝ }
+{
+    if x < y {
+        return y;
+    }
+    x
+}
+
+// One stop and the next start, by their 48 bits. Where one is undefined the start is taken for both. (Each number is picked, with no way out before: of
+// times in no order a branch would be guessed wrong. Two differences from the greater need one pick, which stays one on either machine.)
 pub(crate) fn time_between(stop: u64, start: u64) -> Between
     requires { ⌜ (stop < 281474976710656) × (start < 281474976710656) ⌝ }
     ensures { λ r. ⌜ BetweenIs (timeOf stop) (timeOf start) r ⌝ }
 {
-    if stop == UNDEFINED {
-        return Between {
-            gap: 0,
-            overlap: 0,
-            undefined: 1,
-        };
-    }
-    if start == UNDEFINED {
-        return Between {
-            gap: 0,
-            overlap: 0,
-            undefined: 1,
-        };
-    }
-    let from = on_line(stop);
+    let none = undefined_of(stop, start);
     let to = on_line(start);
-    if from <= to {
-        return Between {
-            gap: to - from,
-            overlap: 0,
-            undefined: 0,
-        };
-    }
+    let from = unless(none, on_line(stop), to);
+    let end = greater(from, to);
     Between {
-        gap: 0,
-        overlap: from - to,
-        undefined: 0,
+        gap: end - from,
+        overlap: end - to,
+        undefined: none,
     }
 }

@@ -4,7 +4,6 @@ use native.Mathlib.Omega.{arith}
 use mathlib.Core.Path.{_≡_, refl, _∙_}
 use mathlib.Core.List.{List, _∷_}
 use lib.ListN.{length, getD}
-use Rattle.record.proofs.HeaderLaws.{size-there}
 use Rattle.demands.specs.Product.{size, Meets}
 use Rattle.month.proofs.CountLaws.{Sofar, Here, first, here-of, raised-most, ask-pair, next, counted, few-records, few-bytes, product-small}
 use Rattle.month.proofs.JoinLaws.{counts-at}
@@ -19,26 +18,29 @@ abbrev μ-loop : tie.MeasureT-loop
 μ-loop s records₀ bytes₀ pairs₀ at₀ records bytes pairs at = length s - at
 
 -- the place where the size of the record at hand is read, and the one after the record
-abbrev T : (c : tie.After-size-at Inv-loop μ-loop) → Meets (c .before .before .before .before .args .s .now)
+abbrev T : (c : tie.After-size-in Inv-loop μ-loop) → Meets (c .before .before .before .before .args .s .now)
 T c = c .before .before .loop .inv .0
 
-abbrev Z : tie.After-paired Inv-loop μ-loop → tie.After-size-at Inv-loop μ-loop
+abbrev Z : tie.After-paired Inv-loop μ-loop → tie.After-size-in Inv-loop μ-loop
 Z c = c .before .before .before .before .before .before .before .before
 
 here : (c : tie.In-loop Inv-loop μ-loop) → Here (c .before .before .before .args .s .now) (0 ∷ c .before .loop .inv .0 .list) (c .before .loop .records) (c .before .loop .bytes) (c .before .loop .pairs) (c .before .loop .at)
 here c = let v = c .before .loop .inv .1 in here-of (v .0) (v .1) (c .loop-test .taken)
 
-byte : (c : tie.After-size-at Inv-loop μ-loop) (k : ℕ) → getD (c .before .before .before .before .args .s .now) k 0 < 256
+byte : (c : tie.After-size-in Inv-loop μ-loop) (k : ℕ) → getD (c .before .before .before .before .args .s .now) k 0 < 256
 byte c k = c .before .before .before .shared-slice-known .given k .fits
 
-sized : (c : tie.After-size-at Inv-loop μ-loop) → c .size-at .result ≡ size (c .before .before .before .before .args .s .now) (c .before .before .loop .at)
-sized c = let h = here (c .before) in c .size-at .ensures ∙ size-there _ _ (omega (arith, h .here .least, h .here .most))
+sized : (c : tie.After-size-in Inv-loop μ-loop) → c .size-in .result ≡ size (c .before .before .before .before .args .s .now) (c .before .before .loop .at)
+sized c = c .size-in .ensures
 
 less : {n i z : ℕ} → i < n → 0 < z → n - (i + z) < n - i
 less h k = omega arith
 
 loop-holds : tie.Need-loop-holds Inv-loop μ-loop
 loop-holds c = let t = c .before .pre in (t, (_, first t))
+
+size-in-requires : tie.Need-size-in-requires Inv-loop μ-loop
+size-in-requires c κs = let h = here c in omega (arith, h .here .least, h .here .most)
 
 shared-slice-read-place : tie.Need-shared-slice-read-place Inv-loop μ-loop
 shared-slice-read-place c = omega (arith, c .before .before .loop-test .taken)
@@ -96,7 +98,7 @@ count-records-spec =
     Inv-loop
     μ-loop
     loop-holds
-    (λ c κs. search needs)
+    size-in-requires
     shared-slice-read-place
     (λ c κs. search needs)
     raise-requires

@@ -20,14 +20,8 @@ abbrev pub Alike : List ℕ → List ℕ → ℕ → ℕ → ℕ → Type 0
 Alike a t i j n = (m : ℕ) → m < n → getD a (i + m) 0 ≡ getD t (j + m) 0
 
 pub record AlikeIs (a t : List ℕ) (i j : ℕ) (r : Bool) : Type 0 where
-  pub good : r ≡ true → Alike a t i j 8
-  pub bad : r ≡ false → Alike a t i j 8 → ⊥
-
--- the eight bytes of a name from byte r on: with the first 8 i of its 30 they are 8 more, or all
-pub record PartIs (i r : ℕ) : Type 0 where
-  pub within : r + 8 ≤ 30
-  pub after : r ≤ 8 * i
-  pub covers : (m : ℕ) → m < 8 * i + 8 → m < 30 → m < r + 8
+  pub good : r ≡ true → Alike a t i j 10
+  pub bad : r ≡ false → Alike a t i j 10 → ⊥
 
 -- the stage of a fault: it is shown where line `stage` starts
 abbrev pub stage : {a : List ℕ} → Fault a → ℕ

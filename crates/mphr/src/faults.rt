@@ -16,7 +16,7 @@ ghost use Rattle.meter.specs.Integer.{beAt};
 ghost use Rattle.mphr.specs.Layout.{names, widths, codes, widthOf, lineStart};
 ghost use Rattle.mphr.specs.Table.{headed, named, framed, total, sum, FirstIs};
 ghost use Rattle.mphr.specs.Resumed.{Resumes, ReachedIs};
-ghost use Rattle.mphr.specs.Turning.{AlikeIs, PartIs, Numbered, Later, Counts, Ready, Past, TurnedIs, refusedAt};
+ghost use Rattle.mphr.specs.Turning.{AlikeIs, Numbered, Later, Counts, Ready, Past, TurnedIs, refusedAt};
 
 // The first fault that is shown, or none.
 pub enum HeaderFault {
@@ -77,23 +77,18 @@ pub(crate) fn eight(s: &[u8], at: usize) -> u64
     four(s, at) * 4294967296 + four(s, at + 4)
 }
 
-// The eight bytes of s from i on are those of t from j on.
+// The ten bytes of s from i on are those of t from j on.
 fn is_alike(s: &[u8], i: usize, t: &[u8], j: usize) -> bool
-    requires { ⌜ (i + 8 ≤ length (now s)) × (j + 8 ≤ length (now t)) ⌝ }
+    requires { ⌜ (i + 10 ≤ length (now s)) × (j + 10 ≤ length (now t)) ⌝ }
     ensures { λ r. ⌜ AlikeIs (now (s .entry)) (now (t .entry)) i j r ⌝ }
 {
     if eight(s, i) != eight(t, j) {
         return false;
     }
-    true
-}
-
-// Where the part of a name begins that is looked at in turn i: after those before it, and the last so that it ends with the name.
-fn part(i: usize) -> usize
-    requires { ⌜ i < 4 ⌝ }
-    ensures { λ r. ⌜ PartIs i r ⌝ }
-{
-    if i < 3 { 8 * i } else { 22 }
+    if s[i + 8] != t[j + 8] {
+        return false;
+    }
+    s[i + 9] == t[j + 9]
 }
 
 fn is_named(s: &[u8], table: &[u8], k: usize, at: usize) -> bool
@@ -101,9 +96,8 @@ fn is_named(s: &[u8], table: &[u8], k: usize, at: usize) -> bool
     ensures { λ r. ⌜ r ≡ named (now (s .entry)) k ⌝ }
 {
     let mut i: usize = 0;
-    while i < 4 {
-        let from = part(i);
-        if !is_alike(s, at + from, table, 30 * k + from) {
+    while i < 3 {
+        if !is_alike(s, at + 10 * i, table, 30 * k + 10 * i) {
             return false;
         }
         i += 1;

@@ -1,4 +1,4 @@
--- Ten bytes compared as two numbers and two bytes, and a name by three tens. Assumes nothing.
+-- Ten bytes compared as two numbers, and a name by three tens. Assumes nothing.
 use Prim.Native.Nat.{ℕ, _+_, _-_, _*_, _≤_, _<_}
 use native.Mathlib.Decide.{decLt, ℕ-discrete}
 use native.Mathlib.Omega.{arith}
@@ -26,6 +26,12 @@ of-four a i e f g h = let z : i + 0 ≡ i = omega arith in let k = ap (λ (k : �
 abbrev pub eight : List ℕ → ℕ → ℕ
 eight a i = beAt a i 4 * 4294967296 + beAt a (i + 4) 4
 
+abbrev pub two : List ℕ → ℕ → ℕ
+two a i = getD a i 0 * 256 + getD a (i + 1) 0
+
+ninth : (a : List ℕ) (i : ℕ) → getD a (i + 8 + 1) 0 ≡ getD a (i + 9) 0
+ninth a i = ap (λ (k : ℕ). getD a k 0) (omega arith)
+
 module _ (a t : List ℕ) (i j : ℕ) (b : (k : ℕ) → getD a k 0 < 256) (c : (k : ℕ) → getD t k 0 < 256) where
   -- the second half, from where the first begins
   later : (s : List ℕ) (k m : ℕ) → getD s (k + 4 + m) 0 ≡ getD s (k + (4 + m)) 0
@@ -39,9 +45,6 @@ module _ (a t : List ℕ) (i j : ℕ) (b : (k : ℕ) → getD a k 0 < 256) (c : 
   -- a test that came out no
   pub eight-no : (eight a i ≡ eight t j → ⊥) → AlikeIs a t i j false
   eight-no d = record { good = λ e. clash (sym e); bad = λ _ f. d (eight-of f) }
-
-  pub byte-no : (m : ℕ) → m < 10 → (getD a (i + m) 0 ≡ getD t (j + m) 0 → ⊥) → AlikeIs a t i j false
-  byte-no m h d = record { good = λ e. clash (sym e); bad = λ _ f. d (f m h) }
 
   module _ (e : eight a i ≡ eight t j) where
     first : beAt a i 4 ≡ beAt t j 4
@@ -68,12 +71,15 @@ module _ (a t : List ℕ) (i j : ℕ) (b : (k : ℕ) → getD a k 0 < 256) (c : 
         go (no u) (yes v) = rw v f
         go (no u) (no v) = let w : m ≡ 9 = omega (arith, v) in rw w g
 
-    pub last : getD a (i + 8) 0 ≡ getD t (j + 8) 0 → AlikeIs a t i j (eqb (getD a (i + 9) 0) (getD t (j + 9) 0))
-    last f = go (ℕ-discrete (getD a (i + 9) 0) (getD t (j + 9) 0))
+    pub last : AlikeIs a t i j (eqb (two a (i + 8)) (two t (j + 8)))
+    last = go (ℕ-discrete (two a (i + 8)) (two t (j + 8)))
       where
-        go : Dec (getD a (i + 9) 0 ≡ getD t (j + 9) 0) → AlikeIs a t i j (eqb (getD a (i + 9) 0) (getD t (j + 9) 0))
-        go (yes g) = record { good = λ _. all f g; bad = λ e _. clash (sym (eq-eqb (getD a (i + 9) 0) (getD t (j + 9) 0) g) ∙ e) }
-        go (no g) = record { good = λ e. clash (sym e ∙ ne-eqb (getD a (i + 9) 0) (getD t (j + 9) 0) g); bad = λ _ h. g (h 9 (omega arith)) }
+        go : Dec (two a (i + 8) ≡ two t (j + 8)) → AlikeIs a t i j (eqb (two a (i + 8)) (two t (j + 8)))
+        go (yes g) =
+            let x : getD a (i + 8) 0 ≡ getD t (j + 8) 0 = omega (arith, g, b (i + 9), c (j + 9), ninth a i, ninth t j) in
+            record { good = λ _. all x (omega (arith, g, x, ninth a i, ninth t j)); bad = λ e _. clash (sym (eq-eqb (two a (i + 8)) (two t (j + 8)) g) ∙ e) }
+        go (no g) =
+            record { good = λ e. clash (sym e ∙ ne-eqb (two a (i + 8)) (two t (j + 8)) g); bad = λ _ h. g (omega (arith, h 8 (omega arith), h 9 (omega arith), ninth a i, ninth t j)) }
 
 -- ---- a name
 module _ (a t : List ℕ) (k p i : ℕ) (e : p ≡ lineStart k) (f : t ≡ names) where

@@ -11,7 +11,7 @@ use meter::integer::Unsigned;
 use text::count_at;
 ghost use mathlib.Core.Path.{_≡_};
 ghost use Prim.Native.Nat.{_+_, _*_, _≤_, _<_};
-ghost use lib.ListN.{length};
+ghost use lib.ListN.{length, getD};
 ghost use Rattle.meter.specs.Integer.{beAt};
 ghost use Rattle.mphr.specs.Layout.{names, widths, codes, widthOf, lineStart};
 ghost use Rattle.mphr.specs.Table.{headed, named, framed, total, sum, FirstIs};
@@ -77,6 +77,14 @@ pub(crate) fn eight(s: &[u8], at: usize) -> u64
     four(s, at) * 4294967296 + four(s, at + 4)
 }
 
+// The number in the 2 bytes from `at` on.
+fn two(s: &[u8], at: usize) -> u64
+    requires { ⌜ at + 2 ≤ length (now s) ⌝ }
+    ensures { λ r. ⌜ r ≡ getD (now (s .entry)) at 0 * 256 + getD (now (s .entry)) (at + 1) 0 ⌝ }
+{
+    wide(s[at]) * 256 + wide(s[at + 1])
+}
+
 // The ten bytes of s from i on are those of t from j on.
 fn is_alike(s: &[u8], i: usize, t: &[u8], j: usize) -> bool
     requires { ⌜ (i + 10 ≤ length (now s)) × (j + 10 ≤ length (now t)) ⌝ }
@@ -85,10 +93,7 @@ fn is_alike(s: &[u8], i: usize, t: &[u8], j: usize) -> bool
     if eight(s, i) != eight(t, j) {
         return false;
     }
-    if s[i + 8] != t[j + 8] {
-        return false;
-    }
-    s[i + 9] == t[j + 9]
+    two(s, i + 8) == two(t, j + 8)
 }
 
 fn is_named(s: &[u8], table: &[u8], k: usize, at: usize) -> bool

@@ -1,5 +1,5 @@
 -- `mphr::faults::is_alike` meets its contract: eight bytes as one number, then two. Assumes nothing.
-use Rattle.mphr.proofs.AlikeLaws.{eight, eight-no, byte-no, last}
+use Rattle.mphr.proofs.AlikeLaws.{eight, eight-no, last}
 use native.Mathlib.Omega.{arith}
 use Prim.Native.Nat.{ℕ, _+_, _<_}
 use mathlib.Core.Path.{_≡_, sym, _∙_}
@@ -26,10 +26,11 @@ returns : tie.Need-returns
 returns c = let e = c .before in eight-no (now (St e .args .s)) (now (St e .args .t)) (St e .args .i) (St e .args .j) (low e) (low-t e) (λ q. c .if1 .taken (e .before .eight .ensures ∙ q ∙ sym (e .eight2 .ensures)))
 
 returns-2 : tie.Need-returns-2
-returns-2 c = let e = c .before .before .before .before in byte-no (now (St e .args .s)) (now (St e .args .t)) (St e .args .i) (St e .args .j) (low e) (low-t e) 8 (omega arith) (c .if2 .taken)
-
-returns-3 : tie.Need-returns-3
-returns-3 c = let f = c .before .before in let d = f .before .before .before in let e = d .before in last (now (St e .args .s)) (now (St e .args .t)) (St e .args .i) (St e .args .j) (low e) (low-t e) (same d) (f .if2 .left)
+returns-2 c =
+    let d = c .before .before in
+    let e = d .before in
+    let b = St e in
+    rw (c .before .two .ensures, c .two2 .ensures) (last (now (b .args .s)) (now (b .args .t)) (b .args .i) (b .args .j) (low e) (low-t e) (same d))
 
 pub is-alike-spec : {M : Type 1} → statement M
 is-alike-spec =
@@ -39,12 +40,7 @@ is-alike-spec =
     (λ c κs. search needs)
     returns
     (λ c. search needs)
+    (λ c κs. search needs)
     (λ c. search needs)
-    (λ c. search needs)
-    (λ c. search needs)
-    returns-2
-    (λ c. search needs)
-    (λ c. search needs)
-    (λ c. search needs)
-    (λ c. search needs)
-    returns-3)
+    (λ c κs. search needs)
+    returns-2)

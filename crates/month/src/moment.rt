@@ -77,8 +77,8 @@ fn greater(x: u64, y: u64) -> u64
     x
 }
 
-// One stop and the next start, by their 48 bits. Where one is undefined the start is taken for both. (Each number is picked, with no way out before: of
-// times in no order a branch would be guessed wrong. Two differences from the greater need one pick, which stays one on either machine.)
+// One stop and the next start, by their 48 bits. Where one is undefined the start is taken for both. (No early return, and no difference
+// that stops at 0, which on x86-64 is a branch: of times in no order it would be guessed wrong.)
 pub(crate) fn time_between(stop: u64, start: u64) -> Between
     requires { ⌜ (stop < 281474976710656) × (start < 281474976710656) ⌝ }
     ensures { λ r. ⌜ BetweenIs (timeOf stop) (timeOf start) r ⌝ }

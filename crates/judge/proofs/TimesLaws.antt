@@ -3,13 +3,13 @@
 use Rattle.calendar.specs.Calendar.{leapDay}
 use mathlib.Core.Path.{_≡_, refl, sym, ap, _∙_}
 use mathlib.Core.Bool.{Bool, true, false, cond, not, _&&_, _||_}
-use mathlib.Core.Logic.{_⊎_, inl, inr, ⊎-elim}
+use mathlib.Core.Logic.{_⊎_, inl, inr}
 use mathlib.Core.List.{List}
 use Prim.Native.Nat.{ℕ, _+_, _*_, _/_, _%_, _^_, _≤_, _<_}
 use native.Mathlib.Omega.{arith}
 use native.Mathlib.Decide.{ℕ-discrete}
-use borrow.Author.Tests.{le-leb, le-ltb, ltb-false, leb-true, eqb-true, eqb-false, not-true}
-use lib.Dec.{leb, ltb, eqb}
+use borrow.Author.Tests.{le-leb, le-ltb, ltb-false}
+use lib.Dec.{ltb}
 use lib.ListN.{getD}
 use Rattle.calendar.specs.Said.{answer}
 use Rattle.meter.specs.Integer.{beAt}
@@ -19,7 +19,6 @@ use Rattle.meter.specs.declared.time.Time.the-variants as T
 use Rattle.meter.specs.declared.time.Order.the-variants as O
 use Rattle.meter.proofs.TimeLaws.{bits-none, bits-some}
 use Rattle.record.specs.Times.{isAfter, timedAt}
-use Rattle.judge.proofs.RankLaws.{and-true}
 
 abbrev pub bits : ℕ → ℕ → ℕ
 bits day ms = day * 0x1_0000_0000 + ms
@@ -49,15 +48,13 @@ module _ (day ms next : ℕ) (e : next ≡ (ms + 1) % 2 ^ 32) (f : ms < 42949672
   pub sure-ones : next ≡ 0 → day ≡ 65535 → isTime (timeOf (bits day ms)) ≡ true
   sure-ones z d = ap isTime (bits-none (bits day ms) (omega arith))
 
-  pub sure : (leb next 86400000 && (not (eqb next 0) || eqb day 65535)) ≡ true → isTime (timeOf (bits day ms)) ≡ true
-  sure t = go (ℕ-discrete next 0)
+  pub sure : next ≤ 86400000 → (next ≡ 0 → ⊥) ⊎ (day ≡ 65535) → isTime (timeOf (bits day ms)) ≡ true
+  sure h (inl n) = sure-milli h n
+  sure h (inr d) = go (ℕ-discrete next 0)
     where
-      tests : (leb next 86400000 ≡ true) × ((not (eqb next 0) || eqb day 65535) ≡ true)
-      tests = and-true (leb next 86400000) (not (eqb next 0) || eqb day 65535) t
-
       go : Dec (next ≡ 0) → isTime (timeOf (bits day ms)) ≡ true
-      go (yes z) = sure-ones z (⊎-elim (λ n. absurd (eqb-false next 0 (not-true (eqb next 0) n) z)) (λ d. eqb-true day 65535 d) (or-true (not (eqb next 0)) (eqb day 65535) (tests .1)))
-      go (no n) = sure-milli (leb-true next 86400000 (tests .0)) n
+      go (yes z) = sure-ones z d
+      go (no n) = sure-milli h n
 
 -- ---- the order of two times
 module _ (x y : ℕ) where

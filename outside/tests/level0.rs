@@ -119,3 +119,46 @@ fn every_kind() {
     // VIADR: two versions. MDR: five subclasses, and a dummy of any of 256 subclasses and the 6 versions tried.
     assert_eq!(fits, BTreeMap::from([(7, 2), (8, 5 + 256 * 6)]));
 }
+
+/// Records of one size one after the other, some hundreds, with dummies between them, and in turn each of them against the profile, alone and with
+/// the last one: the first is named.
+#[test]
+fn long_runs() {
+    let mut rng = Rng(999);
+    let others = [vec![(4, 20); 3], vec![(7, 40); 70], vec![(8, 40); 300]].concat();
+    let shape = outside::generate::Shape { first_version: 2, sphr: None, pointers: 3, others, sorted: true, rest: 0 };
+    let mut p = outside::generate::build(&mut rng, &shape);
+    for (k, s) in p.starts.iter().enumerate() {
+        match p.bytes[*s] {
+            7 => p.bytes[s + 1..s + 4].copy_from_slice(&[0, 0, 1 + (k % 2) as u8]),
+            8 => p.bytes[s + 1..s + 4].copy_from_slice(&[if k % 41 == 0 { 13 } else { 0 }, (k % 5) as u8, 1]),
+            _ => {}
+        }
+    }
+    outside::generate::name_targets(&mut p);
+    let count = p.starts.len();
+    assert_eq!(judged(&p.bytes, count).0, Ok(count as u64));
+    let mut named = 0;
+    for (k, s) in p.starts.iter().enumerate() {
+        let spoken = p.bytes[*s] == 7 || (p.bytes[*s] == 8 && p.bytes[s + 1] == 0);
+        for with_last in [false, true] {
+            let mut bytes = p.bytes.clone();
+            bytes[s + 3] = 9;
+            if with_last {
+                bytes[p.starts[count - 1] + 3] = 9;
+            }
+            let last = *p.starts.last().unwrap() as u64;
+            let right = match (spoken, with_last) {
+                (true, _) => Err(Refusal { number: 29, place: *s as u64 }),
+                (false, true) => Err(Refusal { number: 29, place: last }),
+                (false, false) => Ok(count as u64),
+            };
+            for room in [count, 0] {
+                let right = if room == 0 && right.is_ok() { Err(Refusal { number: 18, place: count as u64 }) } else { right };
+                assert_eq!(judged(&bytes, room).0, right, "record {k}");
+            }
+            named += right.is_err() as usize;
+        }
+    }
+    assert!(named > 700, "{named}");
+}

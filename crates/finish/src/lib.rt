@@ -11,6 +11,7 @@ pub use calendar::Refusal;
 use judge::arrival::Extent;
 use judge::arrival::judge_extent;
 use judge::arrival::survey;
+use judge::profile::NO_PROFILE;
 use judge::stretch::Stretch as Even;
 ghost use mathlib.Core.Path.{_≡_};
 ghost use Rattle.judge.specs.Extent.{Complete, Covered};
@@ -78,9 +79,6 @@ pub fn rows_by(s: &[u8], profile: &[[u8; 6]], rows: &mut [[u32; 7]]) -> Finished
         Against::Nowhere => put_rows(s, rows, count, even),
     }
 }
-
-// A profile is lent where one is asked for; of this one no line is.
-const NO_PROFILE: [[u8; 6]; 1] = [[0; 6]];
 
 // The row lister, by no profile.
 pub fn rows(s: &[u8], rows: &mut [[u32; 7]]) -> Finished

@@ -1,5 +1,5 @@
-// The first record that a profile does not let through. The judge's walk has asked it of the records as it passed them, so that hardly one is
-// left to ask.
+// The first record that a profile does not let through. The judge's walk has asked it of the records as it passed them, so that hardly one
+// is left to ask.
 use judge::profile::allows;
 use record::header::size_at;
 ghost use mathlib.Core.Path.{_≡_};

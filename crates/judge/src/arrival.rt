@@ -10,6 +10,7 @@ use crate::pointers::Settled;
 use crate::pointers::close_record;
 use crate::pointers::no_pointers;
 use crate::pointers::settle;
+use crate::profile::NO_PROFILE;
 use crate::profile::met_on;
 use crate::profile::stride;
 use crate::run::lesser;
@@ -285,9 +286,6 @@ fn judged(s: &[u8], profile: &[[u8; 6]]) -> Walked
         }
     }
 }
-
-// A profile is lent where one is asked for; of this one no line is.
-const NO_PROFILE: [[u8; 6]; 1] = [[0; 6]];
 
 // What is to be said of an arrival: a refusal of 1 to 16, or waiting, with the whole records and the end of the last.
 pub fn judge_arrival(s: &[u8]) -> Arrival

@@ -1,10 +1,13 @@
-// What a profile lets through, asked of records while their headers are at hand. A line of a profile has a class, a group, the least and the
-// greatest subclass, the least and the greatest version.
+// What a profile lets through, asked of records while their headers are at hand. A line of a profile has a class, a group, the least and
+// the greatest subclass, the least and the greatest version.
 ghost use mathlib.Core.Path.{_≡_};
 ghost use Prim.Native.Nat.{_+_, _≤_, _<_};
 ghost use lib.ListN.{length};
 ghost use Rattle.judge.specs.Profile as P;
 ghost use Rattle.judge.specs.Profile.{isLet, speaks, LineIs, OneSize, Passed, Meeting};
+
+// A profile is lent where one is asked for; of this one no line is.
+pub const NO_PROFILE: [[u8; 6]; 1] = [[0; 6]];
 
 fn is_let(line: [u8; 6], class: u8, group: u8, subclass: u8, version: u8) -> bool
     ensures { λ r. ⌜ r ≡ isLet line class group subclass version ⌝ }

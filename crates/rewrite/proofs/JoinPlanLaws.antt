@@ -363,9 +363,6 @@ module _ {a b : List ℕ} {x y : Sections} {table totals : List ℕ} {at size : 
   pub planned-first : 3307 + x .sphr + x .ipr + x .global + x .variable ≤ length a
   planned-first = omega (arith, sections-come (p .matched .found .two .first) (p .matched .found .first))
 
-  pub planned-second : 3307 + y .sphr + y .ipr + y .global + y .variable ≤ length b
-  planned-second = omega (arith, sections-come (p .matched .found .two .second) (p .matched .found .second))
-
   pub planned-pointers : 3307 + x .sphr + length (pointersFrom a at table 0) ≡ at
   planned-pointers = omega (arith, pointers-long a (p .holds) (p .kinded) at, p .planned .base-is, p .matched .found .first .sphr)
 
@@ -410,14 +407,6 @@ module _ {a b : List ℕ} {x y : Sections} (s : Sections2 a b x y) (i j k l : �
 
   other-part : Stretch b l (length b) (only isMdr (ssOf a b (s .two)))
   other-part = mdr-stretch (s .two .second) (s .second) l (length b) (el ∙ ap (λ (n : ℕ). n + y .variable) ek) refl
-
-  pub four-bytes : bytes (together (rsOf a b (s .two)) (ssOf a b (s .two))) ≡ (j - i) + (l - k) + (length a - j) + (length b - l)
-  four-bytes =
-      let u : j - i ≡ x .global + x .variable = omega arith in
-      let v : l - k ≡ y .variable = omega arith in
-      let w : length a - j ≡ bytes (only isMdr (rsOf a b (s .two))) = omega (arith, mdr-part .end) in
-      let z : length b - l ≡ bytes (only isMdr (ssOf a b (s .two))) = omega (arith, other-part .end) in
-      rw (u, v, w, z) (omega (arith, together-bytes s))
 
   pub puts-records :
       (at : ℕ) (room y₁ y₂ y₃ y₄ : List ℕ) → y₁ ≡ sets room at (take (j - i) (drop i a)) → y₂ ≡ sets y₁ (at + (j - i)) (take (l - k) (drop k b))

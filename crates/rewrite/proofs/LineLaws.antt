@@ -39,14 +39,11 @@ use Rattle.parts.proofs.CutHeaderLaws.{name-width, name-start}
 use Rattle.parts.proofs.Relined.{rewritten-none, rewritten-next}
 use Rattle.rewrite.specs.Lining.{Adds, NumberFor, wholeNumber, numberLine, unknownLines, Totals, totalLines, timed, timeLines, linesBy}
 
--- ---- one line more, and more of them
+-- ---- one line more
 pub adds-value : (h h′ v : List ℕ) (k : ℕ) (x : Value) → k < 72 → length v ≡ widthOf k → ((m : List ℕ) → spelling m k x ≡ v) → h′ ≡ sets h (lineStart k + 32) v → Adds h h′ (anew k x ∷ [])
 adds-value h h′ v k x below wide same e m l r =
     subst (λ (z : List ℕ). Rewritten m z (valuesOf (anew k x ∷ l))) (ap (sets h (lineStart k + 32)) (same m) ∙ sym e)
     (rewritten-next l k x r below (ap length (same m) ∙ wide))
-
-pub adds-on : (h h′ h″ : List ℕ) (new more : List Anew) → Adds h h′ new → Adds h′ h″ more → Adds h h″ (more ++ new)
-adds-on h h′ h″ new more f g m l r = rw (append-assoc more new l) (g m (new ++ l) (f m l r))
 
 -- ---- the stamp: the long text without the digits of its millisecond
 first-digits :

@@ -43,8 +43,9 @@ use Rattle.mphr.proofs.LayoutLaws.{start-72, start-next, start-mono}
 use Rattle.mphr.proofs.Export.{clean-fine, fine-valued}
 use Rattle.judge.specs.Table as J
 use Rattle.judge.specs.Table.{Site, site, first, classAt, sizeAt, Sound, Leads, here, on, next, oneMore, unknown, bad-times as bad-times-at, main, Clean, Given, Open, Judged}
-use Rattle.query.specs.Query.{StartOf, Reachable, mainPart, sortOf, timesOf, sortNumber, FieldOf, Denied, faulty, short, no-field, Allowed, valueStart, PartIs, FieldIs, noField, numberIn, NumberIs, timeIn, latitudeField, thousand, degrees, pointOf, PointFound, PointIs, Exact}
+use Rattle.query.specs.Query.{refusalOf, StartOf, Reachable, mainPart, sortOf, timesOf, sortNumber, FieldOf, Denied, faulty, short, no-field, Allowed, valueStart, PartIs, FieldIs, noField, numberIn, NumberIs, timeIn, latitudeField, thousand, degrees, pointOf, PointFound, PointIs, Exact}
 use Rattle.judge.specs.declared.arrival.Arrival.{Arrival}
+use Rattle.judge.specs.declared.arrival.Arrival.the-variants as A
 use Rattle.query.specs.declared.Sort.{Sort}
 use Rattle.query.specs.declared.Sort.the-variants.{Numbers, Times, LongTimes, Texts}
 use Rattle.query.specs.declared.FieldAnswer.{FieldAnswer}
@@ -61,6 +62,12 @@ same-answer e = cc
 
 pub no-answer : {A : Type 0} {r : Refusal} {y : A} → _≡_ {A = Said A} (refused r) (answer y) → ⊥
 no-answer e = let z : _≡_ {A = ℕ} 0 1 = cc in omega arith
+
+-- the judge's refusal is handed on
+pub handed : {b : List ℕ} {j : Arrival} {r x : Refusal} → j ≡ A.Refused x → r ≡ refusalOf j → Judged b j → Given b (r .number) (r .place)
+handed {b} {j} {r} {x} e q g =
+    let f : r ≡ x = q ∙ ap refusalOf e in
+    rw f (rw e at g)
 
 -- a number tells one sort
 abbrev sortFrom : ℕ → Sort

@@ -9,6 +9,7 @@ use mathlib.Core.List.{List}
 use lib.IntN.{ℤ, natAbs}
 use lib.Ieee.{Float, binary64, div, ofInt, ofBits}
 use lib.ListN.{length, take}
+use Rattle.calendar.specs.declared.Refusal.{Refusal}
 use Rattle.calendar.specs.Said.{refusing}
 use Rattle.meter.specs.General.{digitsOf, generalAt}
 use Rattle.meter.specs.declared.general.General.{General}
@@ -21,6 +22,8 @@ use Rattle.text.specs.declared.Number.{Number}
 use Rattle.text.specs.declared.Number.the-variants as N
 use Rattle.mphr.specs.Layout.{widthOf, kindOf, lineStart}
 use Rattle.judge.specs.Table.{Site, first, Leads, Clean, Given, Whole, Open}
+use Rattle.judge.specs.declared.arrival.Arrival.{Arrival}
+use Rattle.judge.specs.declared.arrival.Arrival.the-variants as A
 use Rattle.query.specs.declared.Sort.{Sort}
 use Rattle.query.specs.declared.Sort.the-variants.{Numbers, Times, LongTimes, Texts}
 use Rattle.query.specs.declared.RecordAnswer.{RecordAnswer}
@@ -33,6 +36,11 @@ use Rattle.query.specs.declared.TimeAnswer.{TimeAnswer}
 use Rattle.query.specs.declared.TimeAnswer.the-variants as T
 use Rattle.query.specs.declared.PointAnswer.{PointAnswer}
 use Rattle.query.specs.declared.PointAnswer.the-variants as P
+
+-- the refusal of an arrival that is refused; it is asked of no other
+abbrev pub refusalOf : Arrival → Refusal
+refusalOf (A.Refused r) = r
+refusalOf (A.Waiting _ _) = refusing 0 0
 
 -- ---- THE RECORD QUERY
 -- record k, which is not the main header, starts at byte i

@@ -15,7 +15,7 @@ ghost use mathlib.Core.Path.{_≡_};
 ghost use mathlib.Core.Bool.{true, false};
 ghost use Prim.Native.Nat.{_+_, _≤_, _<_};
 ghost use lib.ListN.{length};
-ghost use Rattle.query.specs.Query.{StartOf, RecordIs, Reachable, sortOf, timesOf, sortNumber, noField, FieldIs, TextIs};
+ghost use Rattle.query.specs.Query.{refusalOf, StartOf, RecordIs, Reachable, sortOf, timesOf, sortNumber, noField, FieldIs, TextIs};
 ghost use Rattle.query.specs.Query.{NumberIs, TimeIs, latitudeField, pointOf, PointIs, Exact};
 
 pub enum RecordAnswer {
@@ -59,6 +59,19 @@ enum Sort {
     Texts,
 }
 
+// The refusal of an arrival that is refused; it is asked of no other.
+fn refusal_of(judged: Arrival) -> Refusal
+    ensures { λ r. ⌜ r ≡ refusalOf judged ⌝ }
+{
+    match judged {
+        Arrival::Refused(r) => r,
+        Arrival::Waiting { count: _, end: _ } => Refusal {
+            number: 0,
+            place: 0,
+        },
+    }
+}
+
 // Where record k starts: the main header is record 0, and the others follow one another.
 fn start_of(s: &[u8], k: usize) -> usize
     requires { ⌜ Reachable (now s) k ⌝ }
@@ -80,21 +93,20 @@ fn start_of(s: &[u8], k: usize) -> usize
 pub fn record_at(bytes: &[u8], k: usize) -> RecordAnswer
     ensures { λ r. ⌜ RecordIs (now (bytes .entry)) k r ⌝ }
 {
-    match judge_arrival(bytes) {
-        Arrival::Refused(r) => RecordAnswer::Refused(r),
-        Arrival::Waiting { count, end: _ } => {
-            if count <= k {
-                return RecordAnswer::Refused(Refusal {
-                    number: 19,
-                    place: count,
-                });
-            }
-            let start = start_of(bytes, k);
-            match record::header::read_header(bytes, start) {
-                HeaderRead::Header(header) => RecordAnswer::Record { start, header },
-                HeaderRead::Refused(r) => RecordAnswer::Refused(r),
-            }
-        }
+    let judged = judge_arrival(bytes);
+    let Arrival::Waiting { count, end: _ } = judged else {
+        return RecordAnswer::Refused(refusal_of(judged));
+    };
+    if count <= k {
+        return RecordAnswer::Refused(Refusal {
+            number: 19,
+            place: count,
+        });
+    }
+    let start = start_of(bytes, k);
+    match record::header::read_header(bytes, start) {
+        HeaderRead::Header(header) => RecordAnswer::Record { start, header },
+        HeaderRead::Refused(r) => RecordAnswer::Refused(r),
     }
 }
 
@@ -143,12 +155,10 @@ fn field_at(bytes: &[u8], k: usize, sort: Sort) -> FieldAnswer
     ensures { λ r. ⌜ FieldIs (now (bytes .entry)) k sort r ⌝ }
 {
     let n = main_come(bytes.len());
-    match judge_arrival(&bytes[..n]) {
-        Arrival::Refused(r) => {
-            return FieldAnswer::Refused(r);
-        }
-        Arrival::Waiting { count: _, end: _ } => {}
-    }
+    let judged = judge_arrival(&bytes[..n]);
+    let Arrival::Waiting { count: _, end: _ } = judged else {
+        return FieldAnswer::Refused(refusal_of(judged));
+    };
     if n < 3307 {
         return FieldAnswer::Refused(Refusal {
             number: 17,

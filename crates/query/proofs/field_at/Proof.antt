@@ -2,15 +2,15 @@
 -- nothing.
 use native.Mathlib.Omega.{arith}
 use Prim.Native.Nat.{ℕ, _+_, _≤_}
-use mathlib.Core.Path.{_≡_, sym, ap, _∙_}
+use mathlib.Core.Path.{_≡_, refl, sym, ap, _∙_}
 use lib.ListN.{length}
 use lib.Seq.{length-take-le}
 use Rattle.mphr.specs.Layout.{kindOf, saidPlace}
 use Rattle.judge.specs.Table.{Clean, Judged}
 use Rattle.query.specs.Query.{mainPart, sortOf, sortNumber, faulty, no-field as none}
 use Rattle.judge.specs.declared.arrival.Arrival.{Arrival}
-use Rattle.judge.specs.declared.arrival.Arrival.the-variants.{Waiting, Refused}
-use Rattle.query.proofs.QueryLaws.{one-sort, Come, part-main, judged-at, short-at, not-known, PlaceIs, placed, start-small, denied-with}
+use Rattle.judge.specs.declared.arrival.Arrival.the-variants.{Waiting}
+use Rattle.query.proofs.QueryLaws.{one-sort, Come, part-main, handed, judged-at, short-at, not-known, PlaceIs, placed, start-small, denied-with}
 use borrow.Author.Needs.{needs}
 use Rattle.query.proofs.field_at.Statement.{statement}
 use Rattle.query.proofs.field_at.Tie as tie
@@ -24,6 +24,9 @@ come c = let m = c .before .before .main-come .ensures in record { within = m .0
 told : (c : tie.After-judge-arrival) (r : Arrival) → c .judge-arrival .result ≡ r → Judged (mainPart (S c .args .bytes .now)) r
 told c r e = judged-at (part-main (S c .args .bytes .now) (c .before .before .main-come .result) (come c)) e (c .judge-arrival .ensures)
 
+judged : (c : tie.After-judge-arrival) → Judged (mainPart (S c .args .bytes .now)) (c .judge-arrival .result)
+judged c = told c (c .judge-arrival .result) refl
+
 abbrev J : tie.After-enum-told → tie.After-judge-arrival
 J c = c .before .before
 
@@ -33,7 +36,7 @@ clean c = let g = c .enum-told .given in told (J c) (Waiting (g .0 .0) (g .0 .1 
 all-come : (c : tie.Else1) → 3307 ≤ length (S (J (c .before)) .args .bytes .now)
 all-come c = omega (arith, c .if1 .left, come (J (c .before)) .within)
 
-place : (c : tie.After-known-told2) → PlaceIs (S (J (c .before .before .before .before .before)) .args .k) (c .before .place .given .0 .0)
+place : (c : tie.After-known-told) → PlaceIs (S (J (c .before .before .before .before .before)) .args .k) (c .before .place .given .0 .0)
 place c = placed (ap saidPlace (sym (c .before .place .given .1)) ∙ c .before .before .before .field-place .ensures)
 
 abbrev K : tie.After-sort-number2 → tie.Else1
@@ -43,7 +46,7 @@ slice-aggregate-judge-arrival : tie.Need-slice-aggregate-judge-arrival
 slice-aggregate-judge-arrival c = sym (length-take-le (c .before .main-come .result) (c .before .before .before .args .bytes .now) (c .before .main-come .ensures .0))
 
 returns : tie.Need-returns
-returns c = let g = c .before .r .given in faulty (told (c .before .before .before) (Refused (g .0 .0)) (g .1))
+returns c = let j = c .before .before .before in faulty (handed (c .before .enum-told2 .given .1) (c .refusal-of .ensures) (judged j))
 
 returns-2 : tie.Need-returns-2
 returns-2 c = let m = come (J (c .before)) in short-at (m .all (c .if1 .taken)) (clean (c .before)) (c .if1 .taken)
@@ -52,7 +55,7 @@ returns-3 : tie.Need-returns-3
 returns-3 c =
     let f = c .before .before .before in
     let e = f .before in
-    denied-with (c .no-field .ensures) (none (clean (e .before)) (all-come e) (λ d. not-known (ap saidPlace (sym (c .before .enum-told2 .given .1)) ∙ f .field-place .ensures) (d .known)))
+    denied-with (c .no-field .ensures) (none (clean (e .before)) (all-come e) (λ d. not-known (ap saidPlace (sym (c .before .enum-told3 .given .1)) ∙ f .field-place .ensures) (d .known)))
 
 -- the place's sort, by its number
 number-is : (c : tie.After-sort-number2) → c .before .sort-number .result ≡ sortNumber (sortOf (kindOf (S (J (K c .before)) .args .k)))
@@ -88,8 +91,9 @@ field-at-spec =
     slice-aggregate-judge-arrival
     (λ c κs. search needs)
     (λ c. search needs)
-    returns
     (λ c. search needs)
+    (λ c κs. search needs)
+    returns
     returns-2
     (λ c κs. search needs)
     (λ c. search needs)

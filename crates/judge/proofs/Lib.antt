@@ -10,7 +10,7 @@ pub mod RunLaws
 pub mod StretchLaws
 pub mod ProfileLaws
 pub mod TimesLaws
+pub mod SortingLaws
 pub mod PendingLaws
-pub mod SweepLaws
 pub mod EaseLaws
 pub mod Local

@@ -6,3 +6,4 @@ pub mod Turning
 pub mod Extent
 pub mod Run
 pub mod Pending
+pub mod Sorting

@@ -175,13 +175,7 @@ fn ended(s: &[u8], totals: &[usize], tally: &[usize], d: usize, count: usize, pr
 }
 
 // The walk over the records after the main header, with a room for the pointers that are still to come.
-fn walk_on(
-    s: &[u8],
-    profile: &[[u8; 6]],
-    totals: &[usize],
-    held: &mut [[u32; 3]],
-    d: usize,
-) -> Walked
+fn walk_on(s: &[u8], profile: &[[u8; 6]], totals: &[usize], held: &mut [usize], d: usize) -> Walked
     requires { ⌜ Walking (now s) (now totals) d ⌝ }
     ensures { λ r. ⌜ WalkedIs (now (profile .entry)) (now (s .entry)) r ⌝ }
 {
@@ -190,7 +184,7 @@ fn walk_on(
     let mut at: usize = 3307;
     let mut prev: u8 = 1;
     let mut w = no_pointers(d);
-    let mut hold = no_hold(d);
+    let mut hold = no_hold();
     let mut notes = no_notes(at);
     let mut met = at;
     let most = stride(profile);
@@ -243,7 +237,8 @@ fn walk_on(
     }
 }
 
-// The room: a single pointer is in order, and needs none.
+// The room: a single pointer is in order, and needs none. It is made as large as the pointers ask, since it is cleared whether they are in
+// order or not.
 fn walk(s: &[u8], profile: &[[u8; 6]]) -> Walked
     requires { ⌜ Begun (now s) ⌝ }
     ensures { λ r. ⌜ WalkedIs (now (profile .entry)) (now (s .entry)) r ⌝ }
@@ -255,10 +250,18 @@ fn walk(s: &[u8], profile: &[[u8; 6]]) -> Walked
     let mut totals = [0usize; 9];
     put_totals(s, &mut totals);
     if totals[3] < 2 {
-        let mut held = [[0u32; 3]; 1];
+        let mut held = [0usize; 1];
         return walk_on(s, profile, &totals, &mut held, d);
     }
-    let mut held = [[0u32; 3]; 256];
+    if totals[3] <= 256 {
+        let mut held = [0usize; 256];
+        return walk_on(s, profile, &totals, &mut held, d);
+    }
+    if totals[3] <= 2048 {
+        let mut held = [0usize; 2048];
+        return walk_on(s, profile, &totals, &mut held, d);
+    }
+    let mut held = [0usize; 16384];
     walk_on(s, profile, &totals, &mut held, d)
 }
 

@@ -7,6 +7,8 @@ pub mod parts;
 mod pending;
 mod pointers;
 pub mod profile;
+mod reach;
 mod run;
+mod sorting;
 pub mod stretch;
 mod times;

@@ -1,64 +1,95 @@
-// The nearest of the pointers whose targets are still to come, in a lent room of any size: where their targets are in no order, a record
-// asks these and not all of them.
+// The nearest of the pointers whose targets are still to come, in a lent room of any size and in the order of their targets: where these
+// are in no order in the product, a record asks the next of the held and not all pointers.
 use crate::header::triple;
 use crate::header::word;
 use crate::pointers::ANY;
 use crate::pointers::Look;
 use crate::pointers::Pointers;
 use crate::pointers::look_at;
+use crate::reach::edge_of;
 use crate::run::lesser;
+use crate::sorting::sort;
 ghost use mathlib.Core.Path.{_≡_};
-ghost use mathlib.Core.Bool.{true, false};
-ghost use Prim.Native.Nat.{_+_, _≤_, _<_};
-ghost use lib.ListN.{length};
+ghost use Prim.Native.Nat.{_+_, _*_, _≤_, _<_};
+ghost use lib.ListN.{length, getD};
 ghost use Rattle.mphr.specs.Table.{declared};
 ghost use Rattle.judge.specs.Step.{any, Scan, Kept};
-ghost use Rattle.judge.specs.Pending.{EntryIs, GatheredIs, StillIs, SweptIs, noHold, RefillIs, HoldIs, EasedIs};
+ghost use Rattle.judge.specs.Pending.{keyOf, EntryIs, PutIs, GatheredIs, SkippedIs, noHold, nothingHeld, ReadyIs, HoldIs, EasedIs};
 
-// What is held: how many, the edge below which all are held, how wide a part to try first the next time, the end of the last pointer that
+// What is held: the first that is still to come, how many there are, the edge below which all are held, the end of the last pointer that
 // was looked at, and a byte before which no pointer tells against the record at hand or points past it.
 pub struct Hold {
+    pub next: usize,
     pub count: usize,
     pub edge: usize,
-    pub span: usize,
     pub end: usize,
     pub due: usize,
 }
 
-// How many are left, a bound below which no target of theirs lies, and whether all that went named the record.
-pub struct Swept {
-    pub count: usize,
-    pub due: usize,
-    pub calm: bool,
+// Nothing is held.
+pub(crate) fn no_hold() -> Hold
+    ensures { λ r. ⌜ r ≡ noHold ⌝ }
+{
+    nothing_held(0, 0)
 }
 
-// Nothing is held, and all of d is tried first.
-pub(crate) fn no_hold(d: usize) -> Hold
-    ensures { λ r. ⌜ r ≡ noHold d ⌝ }
+// Nothing is held of the pointers up to `end`, from `at` on.
+fn nothing_held(at: usize, end: usize) -> Hold
+    ensures { λ r. ⌜ r ≡ nothingHeld at end ⌝ }
 {
     Hold {
+        next: 0,
         count: 0,
-        edge: 0,
-        span: d,
-        end: 0,
-        due: 0,
+        edge: at,
+        end,
+        due: at,
     }
 }
 
-// The pointer record at q: its target, its kind, its place.
-fn entry_at(s: &[u8], q: usize) -> [u32; 3]
-    requires { ⌜ (q + 27 ≤ length (now s)) × (q < 4294967296) ⌝ }
-    ensures { λ r. ⌜ EntryIs (now (s .entry)) q r ⌝ }
+// A pointer as one number: its target, and then the three bytes of its kind.
+fn key(target: usize, kind: usize) -> usize
+    requires { ⌜ (target < 4294967296) × (kind < 16777216) ⌝ }
+    ensures { λ r. ⌜ r ≡ keyOf target kind ⌝ }
 {
-    let target = word(s, q + 23);
-    let kind = triple(s, q + 20);
-    [target as u32, kind as u32, q as u32]
+    target * ANY + kind
 }
 
-// The pointers up to `end` whose targets are from lo up to hi, from the cursor on; more than there is room for where they do not all fit.
-fn gather(s: &[u8], held: &mut [[u32; 3]], from: usize, end: usize, lo: usize, hi: usize) -> usize
-    requires { ⌜ Scan (now s) end lo hi any from × (end < 4294967296) ⌝ }
-    ensures { λ r. ⌜ GatheredIs (now (s .entry)) (now (held .exit)) (length (now (held .entry))) end lo hi r ⌝ }
+// The pointer record at q.
+fn entry_at(s: &[u8], q: usize) -> usize
+    requires { ⌜ q + 27 ≤ length (now s) ⌝ }
+    ensures { λ r. ⌜ EntryIs (now (s .entry)) q r ⌝ }
+{
+    key(word(s, q + 23), triple(s, q + 20))
+}
+
+// One more of the held, at place n, unless it is `named`; more than there is room for where it does not fit.
+fn put(held: &mut [usize], n: usize, entry: usize, named: usize) -> usize
+    requires { ⌜ n ≤ length (now held) ⌝ }
+    ensures { λ r. ⌜ PutIs (now (held .entry)) (now (held .exit)) n entry named r ⌝ }
+{
+    if entry == named {
+        return n;
+    }
+    if n == held.len() {
+        return n + 1;
+    }
+    held[n] = entry;
+    n + 1
+}
+
+// The pointers up to `end` whose targets are from lo up to hi, from the cursor on, without those that are `named`; more than there is room
+// for where they do not all fit.
+fn gather(
+    s: &[u8],
+    held: &mut [usize],
+    from: usize,
+    end: usize,
+    lo: usize,
+    hi: usize,
+    named: usize,
+) -> usize
+    requires { ⌜ Scan (now s) end lo hi any from ⌝ }
+    ensures { λ r. ⌜ GatheredIs (now (s .entry)) (now (held .exit)) (length (now (held .entry))) end lo hi named r ⌝ }
 {
     let mut n: usize = 0;
     let mut q = from;
@@ -74,11 +105,10 @@ fn gather(s: &[u8], held: &mut [[u32; 3]], from: usize, end: usize, lo: usize, h
                 return held.len() + 1;
             }
             Look::Found => {
-                if n == held.len() {
-                    return n + 1;
+                n = put(held, n, entry_at(s, q), named);
+                if held.len() < n {
+                    return n;
                 }
-                held[n] = entry_at(s, q);
-                n += 1;
                 q += 27;
             }
         }
@@ -86,143 +116,92 @@ fn gather(s: &[u8], held: &mut [[u32; 3]], from: usize, end: usize, lo: usize, h
     n
 }
 
-fn wide(x: u32) -> usize
-    ensures { λ r. ⌜ r ≡ x ⌝ }
-{
-    x as usize
-}
-
-// Still calm, with one more that points at or into the record at `at`.
-fn still(calm: bool, target: usize, kind: usize, at: usize, named: usize) -> bool
-    ensures { λ r. ⌜ StillIs calm target kind at named r ⌝ }
-{
-    if target != at {
-        return false;
-    }
-    if kind != named {
-        return false;
-    }
-    calm
-}
-
-// The first n of the held, without those whose target lies before `to`.
-fn sweep(held: &mut [[u32; 3]], n: usize, at: usize, to: usize, kind: usize, edge: usize) -> Swept
-    requires { ⌜ n ≤ length (now held) ⌝ }
-    ensures { λ r. ⌜ SweptIs (now (held .entry)) (now (held .exit)) n at to kind edge r ⌝ }
-{
-    let mut calm = true;
-    let mut due = edge;
-    let mut kept: usize = 0;
-    let mut j: usize = 0;
-    while j < n {
-        let e = held[j];
-        let target = wide(e[0]);
-        if target < to {
-            calm = still(calm, target, wide(e[1]), at, kind);
-        } else {
-            held[kept] = e;
-            kept += 1;
-            due = lesser(due, target);
-        }
-        j += 1;
-    }
-    Swept {
-        count: kept,
-        due,
-        calm,
-    }
-}
-
-fn reach(lo: usize, width: usize, d: usize) -> usize
-    requires { ⌜ lo ≤ d ⌝ }
-    ensures { λ r. ⌜ r ≤ d ⌝ }
-{
-    if d - lo < width { d } else { lo + width }
-}
-
-// Twice as wide the next time, where half of the room was enough.
-fn wider(n: usize, room: usize, width: usize, d: usize) -> usize
-    requires { ⌜ (n ≤ room) × (d < 4294967296) ⌝ }
-{
-    if room - n < n {
-        return width;
-    }
-    if d < width {
-        return width;
-    }
-    width + width
-}
-
-// The buffer anew: the pointers whose targets are from lo on, as far as there is room for them; none where too many name one byte.
+// The buffer anew, before the record at `at`: in order, the pointers whose targets are from there on, as far as there is room for them.
+// Those that name the record, as many as they may be, need no place.
 fn refill(
     s: &[u8],
-    held: &mut [[u32; 3]],
+    held: &mut [usize],
     from: usize,
     end: usize,
-    lo: usize,
+    at: usize,
+    named: usize,
     d: usize,
-    span: usize,
 ) -> Hold
-    requires { ⌜ Scan (now s) end lo d any from × (end < 4294967296) × (lo ≤ d) × (d < 4294967296) ⌝ }
-    ensures { λ r. ⌜ RefillIs (now (s .entry)) (now (held .exit)) (length (now (held .entry))) end lo r ⌝ }
+    requires { ⌜ Scan (now s) end at d any from × (at < d) × (d ≤ 2147483647) ⌝ }
+    ensures { λ r. ⌜ ReadyIs (now (s .entry)) (now (held .exit)) (length (now (held .entry))) end at named r ⌝ }
 {
-    let mut width = span;
-    while 0 < width {
-        let hi = reach(lo, width, d);
-        let n = gather(s, held, from, end, lo, hi);
-        if n <= held.len() {
-            return Hold {
-                count: n,
-                edge: hi,
-                span: wider(n, held.len(), width, d),
-                end,
-                due: lo,
-            };
-        }
-        width = width / 2;
+    let edge = edge_of(s, from, end, at + 1, d, held.len());
+    let count = gather(s, held, from, end, at, edge, named);
+    if held.len() < count {
+        return nothing_held(at, end);
+    }
+    if !sort(held, count) {
+        return nothing_held(at, end);
     }
     Hold {
-        count: 0,
-        edge: lo,
-        span: 1,
+        next: 0,
+        count,
+        edge,
         end,
-        due: lo,
+        due: at,
     }
 }
 
-// The buffer reaches up to `to`, if it can, and has each pointer up to w.end in view.
+// The buffer reaches up to `to`, if it can, and has each pointer up to w.end in view, without those that are `named`. (Two calls, so that
+// the compiler leaves what fills the buffer out of the walk's loop.)
 fn ready(
     s: &[u8],
-    held: &mut [[u32; 3]],
+    held: &mut [usize],
     hold: Hold,
     w: Pointers,
     at: usize,
     to: usize,
+    named: usize,
     d: usize,
 ) -> Hold
     requires { ⌜ Kept (now s) at w × HoldIs (now s) at (now held) hold × (d ≡ declared (now s)) × (at < d) × (d ≤ 2147483647) ⌝ }
-    ensures { λ r. ⌜ RefillIs (now (s .entry)) (now (held .exit)) (length (now (held .entry))) (w .end) at r ⌝ }
+    ensures { λ r. ⌜ ReadyIs (now (s .entry)) (now (held .exit)) (length (now (held .entry))) (w .end) at named r ⌝ }
 {
-    if hold.end == w.end {
-        if to <= hold.edge {
-            return hold;
-        }
+    if hold.end != w.end {
+        return refill(s, held, w.from, w.end, at, named, d);
     }
-    refill(s, held, w.from, w.end, at, d, hold.span)
+    if hold.edge < to {
+        return refill(s, held, w.from, w.end, at, named, d);
+    }
+    hold
 }
 
-fn due_of(swept: Swept, at: usize) -> usize
-    ensures { λ r. ⌜ (swept .calm ≡ true → r ≡ swept .due) × (swept .calm ≡ false → r ≡ at) ⌝ }
+// The first of the held, from `next` up to `count`, that is another than `named`.
+fn skip(held: &[usize], next: usize, count: usize, named: usize) -> usize
+    requires { ⌜ (next ≤ count) × (count ≤ length (now held)) ⌝ }
+    ensures { λ r. ⌜ SkippedIs (now (held .entry)) next count named r ⌝ }
 {
-    if swept.calm { swept.due } else { at }
+    let mut j = next;
+    while j < count {
+        if held[j] != named {
+            return j;
+        }
+        j += 1;
+    }
+    j
 }
 
-// Where the targets are in no order and a pointer may point at the record at `at`, the held ones say whether all that do name it, and
-// which is the next; where they do not all name it, or cannot be held, the byte that is due stays at `at`, and the turn looks through all
-// of them.
+// The target of the next of the held, or the edge.
+fn due_of(held: &[usize], next: usize, count: usize, edge: usize) -> usize
+    requires { ⌜ count ≤ length (now held) ⌝ }
+    ensures { λ r. ⌜ (r ≤ edge) × (next < count → r * any ≤ getD (now (held .entry)) next 0) ⌝ }
+{
+    if count <= next {
+        return edge;
+    }
+    lesser(edge, held[next] / ANY)
+}
+
+// Where the targets are in no order and a pointer may point at the record at `at`: those of the held that name it go, and the target of
+// the next is due. Where a pointer is due before the record's end, or they cannot be held, the turn looks through all of them.
 pub(crate) fn ease(
     s: &[u8],
-    held: &mut [[u32; 3]],
+    held: &mut [usize],
     hold: Hold,
     w: Pointers,
     at: usize,
@@ -243,13 +222,13 @@ pub(crate) fn ease(
     if to <= w.due {
         return same;
     }
-    let mut v = ready(s, held, hold, w, at, to, d);
-    v.due = at;
-    if v.edge < to {
-        return v;
+    if to <= at {
+        return same;
     }
-    let swept = sweep(held, v.count, at, to, triple(s, at), v.edge);
-    v.count = swept.count;
-    v.due = due_of(swept, at);
+    let named = key(at, triple(s, at));
+    let mut v = ready(s, held, hold, w, at, to, named, d);
+    let next = skip(held, v.next, v.count, named);
+    v.due = due_of(held, next, v.count, v.edge);
+    v.next = next;
     v
 }

@@ -1,4 +1,4 @@
--- `judge::arrival::walk` meets its contract: the walk is asked with either room. Assumes nothing.
+-- `judge::arrival::walk` meets its contract: the walk is asked with each room. Assumes nothing.
 use Prim.Native.Nat.{ℕ}
 use native.Mathlib.Omega.{arith}
 use denote.Ref.{now}
@@ -41,7 +41,13 @@ walk-on-requires : tie.Need-walk-on-requires
 walk-on-requires c κs = walking (c .before .before .before .before)
 
 walk-on-requires-2 : tie.Need-walk-on-requires-2
-walk-on-requires-2 c κs = walking (c .before .before .before .before)
+walk-on-requires-2 c κs = walking (c .before .before .before .before .before)
+
+walk-on-requires-3 : tie.Need-walk-on-requires-3
+walk-on-requires-3 c κs = walking (c .before .before .before .before .before .before)
+
+walk-on-requires-4 : tie.Need-walk-on-requires-4
+walk-on-requires-4 c κs = walking (c .before .before .before .before .before .before)
 
 pub walk-spec : {M : Type 1} → statement M
 walk-spec =
@@ -61,5 +67,15 @@ walk-spec =
     (λ c. search needs)
     (λ c. search needs)
     (λ c. search needs)
+    (λ c. search needs)
     walk-on-requires-2
+    (λ c. search needs)
+    (λ c. search needs)
+    (λ c. search needs)
+    (λ c. search needs)
+    walk-on-requires-3
+    (λ c. search needs)
+    (λ c. search needs)
+    (λ c. search needs)
+    walk-on-requires-4
     (λ c. search needs))

@@ -37,7 +37,7 @@ abbrev μ-loop : tie.MeasureT-loop
 μ-loop s profile totals held₀ d tally₀ count₀ at₀ prev₀ w₀ hold₀ notes₀ met₀ most follow held tally count at prev w hold notes met = d - at
 
 abbrev St : tie.At-loop Inv-loop μ-loop → tie.Start Inv-loop μ-loop
-St c = c .before .before .before .before .before .before .before
+St c = c .before .before .before .before .before .before .before .before
 
 abbrev a : tie.At-loop Inv-loop μ-loop → List ℕ
 a c = now (St c .args .s)
@@ -62,7 +62,7 @@ eased : (c : tie.After-ease Inv-loop μ-loop) → Kept (a (A c)) (A c .loop .at)
 eased c = kept-eased (A c .loop .inv .1) (c .ease .ensures .calm)
 
 abbrev T : tie.After-turn Inv-loop μ-loop → tie.After-ease Inv-loop μ-loop
-T c = c .before .before .before .before
+T c = c .before .before .before .before .before
 
 told : (c : tie.After-turn Inv-loop μ-loop) (r : Turned) → c .turn .result ≡ r → TurnedIs (a (A (T c))) (x (A (T c))) r
 told c r e = subst (TurnedIs (a (A (T c))) (x (A (T c)))) e (c .turn .ensures)
@@ -135,7 +135,7 @@ counts e = ap (λ (r : Notes). r .last .count) e
 loop-holds : tie.Need-loop-holds Inv-loop μ-loop
 unfolding firstAfter mayFollow
 loop-holds c =
-    let s = c .before .before .before .before .before .before in
+    let s = c .before .before .before .before .before .before .before in
     let y = s .pre in (
       turn-first (y .begun .clean) (y .begun .come) (λ h. let n = y .not-part (omega (arith, y .d-is)) in omega (arith, y .d-is)),
       subst (Kept (now (s .args .s)) 3307) (sym (c .before .before .before .no-pointers .ensures)) (kept-first (y .begun .come)),
@@ -154,7 +154,7 @@ ease-requires c κs =
 
 turn-requires : tie.Need-turn-requires Inv-loop μ-loop
 turn-requires c κs =
-    let e = c .before .before .before in
+    let e = c .before .before .before .before in
     let y = walking (A e) in
     (record { d-is = y .d-is; small = y .small; room = e .before .before .loop-test .taken; totals = y .totals; turn = A e .loop .inv .0; kept = eased e }, A e .loop .inv .2)
 

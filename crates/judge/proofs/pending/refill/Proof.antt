@@ -1,70 +1,45 @@
--- `judge::pending::refill` meets its contract: what was gathered fits, or the next part is half as wide. Assumes nothing.
-use Prim.Native.Nat.{ℕ, _≤_, _<_, zero-le}
+-- `judge::pending::refill` meets its contract: nothing is held, or what was gathered, in order. Assumes nothing.
 use native.Mathlib.Nat.{le-refl}
 use native.Mathlib.Omega.{arith}
-use mathlib.Core.Path.{_≡_, refl, _∙_}
-use lib.ListN.{length}
+use mathlib.Core.Path.{_∙_}
+use borrow.Author.Needs.{needs}
+use borrow.Author.Tests.{not-false}
 use Rattle.judge.proofs.ScanLaws.{scan-narrow}
+use Rattle.judge.proofs.EaseLaws.{ready-none, ready-filled}
 use Rattle.judge.proofs.pending.refill.Statement.{statement}
 use Rattle.judge.proofs.pending.refill.Tie as tie
 
-abbrev Inv-loop : tie.InvT-loop
-Inv-loop s held₀ from end lo d span width₀ held width = length held ≡ length held₀
+edge-of-requires : tie.Need-edge-of-requires
+edge-of-requires c κs = let k = c .before .before .pre in (scan-narrow (omega arith) (le-refl _) (k .0), omega (arith, k .1))
 
-abbrev μ-loop : tie.MeasureT-loop
-μ-loop s held₀ from end lo d span width₀ held width = width
+gather-requires : tie.Need-gather-requires
+gather-requires c κs = let e = c .before in scan-narrow (le-refl _) (e .edge-of .ensures) (e .before .before .before .pre .0)
 
-abbrev L : tie.After-gather Inv-loop μ-loop → tie.At-loop Inv-loop μ-loop
-L c = c .before .before .before .before
+returns : tie.Need-returns
+returns c = ready-none (c .nothing-held .ensures) (c .before .before .before .before .gather .ensures .same)
 
-kept : (c : tie.After-gather Inv-loop μ-loop) → length (c .gather .last .1 .0) ≡ length (L c .before .before .args .held .now)
-kept c = c .gather .ensures .same ∙ L c .loop .inv
+abbrev G : tie.After-sort → tie.After-gather
+G c = c .before .before .before .before .before
 
-loop-holds : tie.Need-loop-holds Inv-loop μ-loop
-loop-holds c = refl
+returns-2 : tie.Need-returns-2
+returns-2 c = let s = c .before .before .before .before in ready-none (c .nothing-held2 .ensures) (s .sort .ensures .0 .same ∙ G s .gather .ensures .same)
 
-reach-requires : tie.Need-reach-requires Inv-loop μ-loop
-reach-requires c κs = c .before .before .before .pre .2
-
-gather-requires : tie.Need-gather-requires Inv-loop μ-loop
-gather-requires c κs = let k = c .before .before .before .before .before .pre in (scan-narrow (le-refl _) (c .before .reach .ensures) (k .0), k .1)
-
-wider-requires : tie.Need-wider-requires Inv-loop μ-loop
-wider-requires c κs = (c .if1 .taken, L (c .before .before) .before .before .pre .3)
-
-same-length : tie.Need-same-length Inv-loop μ-loop
-same-length c = kept (c .before .before .before)
-
-returns : tie.Need-returns Inv-loop μ-loop
-returns c =
-    let g = c .before .before .before in
-    record { same = kept g; end-is = refl; few = omega (arith, c .before .if1 .taken, kept g); all = g .gather .ensures .all (omega (arith, c .before .if1 .taken, g .gather .ensures .same)) }
-
-loop-less : tie.Need-loop-less Inv-loop μ-loop
-loop-less c = let i = L (c .before .before) in omega (arith, c .before .before .before .before .before .loop-test .taken)
-
-loop-again : tie.Need-loop-again Inv-loop μ-loop
-loop-again c = kept (c .before .before)
-
-same-length-2 : tie.Need-same-length-2 Inv-loop μ-loop
-same-length-2 c = c .before .loop .inv
-
-returns-2 : tie.Need-returns-2 Inv-loop μ-loop
-returns-2 c = record { same = c .before .loop .inv; end-is = refl; few = zero-le; all = λ p w. absurd (omega (arith, w .above, w .below)) }
+returns-3 : tie.Need-returns-3
+returns-3 c = let s = c .before .before .before in ready-filled (G s .gather .ensures) (s .before .before .if1 .left) (s .sort .ensures .0) (s .sort .ensures .1 (not-false (s .sort .result) (c .if2 .left)))
 
 pub refill-spec : {M : Type 1} → statement M
 refill-spec =
     tie.close
     (tie.spec
-    Inv-loop
-    μ-loop
-    loop-holds
-    reach-requires
+    (λ c. search needs)
+    edge-of-requires
     gather-requires
-    wider-requires
-    same-length
+    (λ c κs. search needs)
+    (λ c. search needs)
     returns
-    loop-less
-    loop-again
-    same-length-2
-    returns-2)
+    (λ c κs. search needs)
+    (λ c κs. search needs)
+    (λ c. search needs)
+    returns-2
+    (λ c. search needs)
+    returns-3)

@@ -21,8 +21,8 @@
  * WHAT COSTS WHAT. The judges read the main header's 3,307 bytes once, and of the other records the header and a pointer's 7 bytes alone, so a product
  * of 32 MiB in 100,000 records takes milliseconds. wl_record judges the arrival anew and walks to record k at each call: for all records of a product
  * ask wl_rows once, and wl_read_header at each start where a record's times are wanted. Whether it is accepted wl_verdict says, with no rows. A field
- * query judges the main header anew at each call, some microseconds; the ground point twice. A part that is fed to a watch costs some 4 KiB of copying besides its records, so parts of a few KiB or more are best. Nothing allocates, and
- * no call keeps anything of an earlier one but in the watch that it is lent.
+ * query judges the main header anew at each call, some microseconds; the ground point twice. A part that is fed to a watch costs some tens of
+ * nanoseconds besides its records. Nothing allocates, and no call keeps anything of an earlier one but in the watch that it is lent.
  */
 #ifndef WARPLADLE_H
 #define WARPLADLE_H
@@ -233,11 +233,11 @@ void wl_level0(const uint8_t *bytes, size_t len, uint32_t (*rows)[7], size_t roo
  * bytes in all. Its fields are the library's own: make it with wl_watch_new, change it with wl_watch_feed alone, copy it as you like. A watch whose
  * bytes came otherwise still ends each call safely, with some answer. */
 typedef struct wl_watch {
-    uint8_t head[3307], under[27];
-    uint32_t starts[64], targets[64], kinds[64];
-    uint64_t totals[9], tally[9];
     uint64_t got, have, at, count, declared, due, place, next, line;
     uint8_t previous, number;
+    uint64_t totals[9], tally[9];
+    uint32_t starts[64], targets[64], kinds[64];
+    uint8_t head[3307], under[27];
 } wl_watch;
 
 /* A watch that was fed nothing. */

@@ -133,11 +133,11 @@ FUNCTIONS: dict[str, tuple[tuple[Any, ...], int]] = {
 class Watched(ctypes.Structure):
     """`wl_watch` of the header: the state of a watch, whose fields are the library's own."""
 
-    _fields_ = ([('head', ctypes.c_uint8 * 3307), ('under', ctypes.c_uint8 * 27)]
-                + [(name, ctypes.c_uint32 * 64) for name in ('starts', 'targets', 'kinds')]
+    _fields_ = ([(name, ctypes.c_uint64) for name in ('got', 'have', 'at', 'count', 'declared', 'due', 'place', 'next', 'line')]
+                + [('previous', ctypes.c_uint8), ('number', ctypes.c_uint8)]
                 + [(name, ctypes.c_uint64 * 9) for name in ('totals', 'tally')]
-                + [(name, ctypes.c_uint64) for name in ('got', 'have', 'at', 'count', 'declared', 'due', 'place', 'next', 'line')]
-                + [('previous', ctypes.c_uint8), ('number', ctypes.c_uint8)])
+                + [(name, ctypes.c_uint32 * 64) for name in ('starts', 'targets', 'kinds')]
+                + [('head', ctypes.c_uint8 * 3307), ('under', ctypes.c_uint8 * 27)])
 
 
 def places() -> list[Path]:

@@ -27,18 +27,14 @@ ghost use lib.ListN.{length, getD};
 ghost use Rattle.record.specs.Header.{isClass};
 ghost use Rattle.record.specs.Follow.{Ruled};
 ghost use Rattle.judge.specs.Turning.{refusedAt, FewerIs};
-ghost use Rattle.watch.specs.Stands.{Fresh, FedIs};
-ghost use Rattle.watch.specs.Turning.{TurnIs, RunInIs, OneMoreIs, SaneIs, SaneWatch, WalkIs, AdvanceIs};
+ghost use Rattle.judge.specs.declared.arrival.Arrival.the-variants.{Waiting};
+ghost use Rattle.watch.specs.Stands.{laid, Fresh, FedIs};
+ghost use Rattle.watch.specs.Turning.{TurnIs, RunInIs, OneMoreIs, SaneIs, SaneMark, refusing, waited};
+ghost use Rattle.watch.specs.Turning.{EndIs, WalkIs, AdvanceIs, IdleIs};
 
+// Where the watch is: all of it but its arrays. It goes by value.
 #[repr(C)]
-pub struct Watch {
-    pub head: [u8; 3307],
-    pub under: [u8; 27],
-    pub starts: [u32; 64],
-    pub targets: [u32; 64],
-    pub kinds: [u32; 64],
-    pub totals: [usize; 9],
-    pub tally: [usize; 9],
+pub struct Mark {
     pub got: usize,
     pub have: usize,
     pub at: usize,
@@ -52,8 +48,28 @@ pub struct Watch {
     pub number: u8,
 }
 
+// The mark, the records of each class that are to come and that have, the pointers met so far, the main header, and the header of the
+// record under way.
+#[repr(C)]
+pub struct Watch {
+    pub mark: Mark,
+    pub totals: [usize; 9],
+    pub tally: [usize; 9],
+    pub starts: [u32; 64],
+    pub targets: [u32; 64],
+    pub kinds: [u32; 64],
+    pub head: [u8; 3307],
+    pub under: [u8; 27],
+}
+
 pub struct Fed {
     pub watch: Watch,
+    pub answer: Arrival,
+}
+
+// The mark after a part; the arrays are changed in place.
+pub struct Gone {
+    pub mark: Mark,
     pub answer: Arrival,
 }
 
@@ -74,6 +90,10 @@ pub enum Turned {
         target: usize,
         kind: usize,
         due: usize,
+    },
+    // What is to come of it up to `to` is not looked at.
+    Rest {
+        to: usize,
     },
 }
 
@@ -99,9 +119,9 @@ fn turn<'a>(
     follow: &'a [[bool; 8]; 8],
     totals: &'a [usize; 9],
     tally: &'a [usize; 9],
-    starts: &'a [u32; 64],
-    targets: &'a [u32; 64],
-    kinds: &'a [u32; 64],
+    starts: &[u32; 64],
+    targets: &[u32; 64],
+    kinds: &[u32; 64],
     have: usize,
     len: usize,
     d: usize,
@@ -159,7 +179,7 @@ fn turn<'a>(
         },
         Settled::Clear(due) => {
             if len < to {
-                return Turned::Wait;
+                return Turned::Rest { to };
             }
             if is_part(to, d) {
                 return Turned::Refuse {
@@ -239,12 +259,87 @@ fn with_more(n: usize, more: usize, total: usize) -> usize
     n + more
 }
 
-// The records of a part, the first byte of which is byte `base` of what was fed.
-fn walk(w: Watch, part: &[u8], base: usize) -> Fed
-    requires { ⌜ SaneWatch w × (base ≤ 2147483647) ⌝ }
-    ensures { λ r. ⌜ WalkIs w (now (part .entry)) base r ⌝ }
+// The watch refuses, from here on.
+fn refuse(mark: Mark, number: u8, place: usize) -> Gone
+    ensures { λ r. ⌜ (r .mark ≡ refusing mark number place) × (r .answer ≡ refusedAt number place) ⌝ }
 {
-    let mut v = w;
+    let mut v = mark;
+    v.number = number;
+    v.place = place;
+    Gone {
+        mark: v,
+        answer: refusal(number, place),
+    }
+}
+
+// The record under way is not whole, of whose header `have` bytes are held; what comes before byte `next` is not looked at.
+fn wait(mark: Mark, have: usize, got: usize, next: usize) -> Gone
+    ensures { λ r. ⌜ (r .mark ≡ waited mark have got next) × (r .answer ≡ Waiting (mark .count) (mark .at)) ⌝ }
+{
+    let mut v = mark;
+    v.have = have;
+    v.got = got;
+    v.next = next;
+    Gone {
+        mark: v,
+        answer: Arrival::Waiting {
+            count: v.count,
+            end: v.at,
+        },
+    }
+}
+
+// The walk is at the product's end, and `len` bytes were fed.
+fn end<'a>(mark: Mark, totals: &'a [usize; 9], tally: &'a [usize; 9], len: usize) -> Gone
+    ensures { λ r. ⌜ EndIs mark (now (totals .entry)) (now (tally .entry)) len r ⌝ }
+{
+    let mut v = mark;
+    let d = v.d;
+    if is_fewer(totals, tally) {
+        return refuse(v, 15, d);
+    }
+    if d < len {
+        return refuse(v, 16, d);
+    }
+    v.got = len;
+    v.next = 0;
+    Gone {
+        mark: v,
+        answer: Arrival::Waiting {
+            count: v.count,
+            end: d,
+        },
+    }
+}
+
+// Up to where the bytes of a record that ends at `to` are not looked at, once its header of 20 bytes is held: a pointer's last 7 are.
+fn until(class: u8, to: usize) -> usize
+    ensures { λ r. ⌜ (class ≡ 3 → r ≡ 0) × ((class ≡ 3 → ⊥) → r ≡ to) ⌝ }
+{
+    if class == 3 {
+        return 0;
+    }
+    to
+}
+
+// The records of a part, the first byte of which is byte `base` of what was fed.
+fn walk(
+    mark: Mark,
+    totals: &[usize; 9],
+    tally: &mut [usize; 9],
+    starts: &mut [u32; 64],
+    targets: &mut [u32; 64],
+    kinds: &mut [u32; 64],
+    under: &mut [u8; 27],
+    part: &[u8],
+    base: usize,
+) -> Gone
+    requires { ⌜ SaneMark mark (now tally) × (base ≤ 2147483647) ⌝ }
+    ensures { λ r. ⌜ WalkIs mark (now (totals .entry)) (now (tally .entry)) (now (starts .entry)) (now (targets .entry)) (now (kinds .entry))
+        (now (under .entry)) (now (part .entry)) base
+        (now (tally .exit)) (now (starts .exit)) (now (targets .exit)) (now (kinds .exit)) (now (under .exit)) r ⌝ }
+{
+    let mut v = mark;
     let len = base + part.len();
     // Once: a const array is copied where it is named.
     let follow = record::follow::FOLLOW;
@@ -252,17 +347,17 @@ fn walk(w: Watch, part: &[u8], base: usize) -> Fed
         let d = v.d;
         let at = v.at;
         let held = v.have;
-        let have = fill(&mut v.under, held, part, ahead(at + held, base, part.len()));
+        let have = fill(under, held, part, ahead(at + held, base, part.len()));
         let due = v.due;
         let prev = v.prev;
         match turn(
-            &v.under,
+            under,
             &follow,
-            &v.totals,
-            &v.tally,
-            &v.starts,
-            &v.targets,
-            &v.kinds,
+            totals,
+            tally,
+            starts,
+            targets,
+            kinds,
             have,
             len,
             d,
@@ -271,32 +366,19 @@ fn walk(w: Watch, part: &[u8], base: usize) -> Fed
             prev,
         ) {
             Turned::Wait => {
-                v.have = have;
-                v.got = len;
-                return Fed {
-                    watch: v,
-                    answer: Arrival::Waiting {
-                        count: v.count,
-                        end: at,
-                    },
-                };
+                return wait(v, have, len, 0);
             }
             Turned::Refuse { number, place } => {
-                v.number = number;
-                v.place = place;
-                return Fed {
-                    watch: v,
-                    answer: refusal(number, place),
-                };
+                return refuse(v, number, place);
             }
             Turned::Pass { to, class, due } => {
                 let k = class as usize;
-                let n = v.tally[k];
-                let total = v.totals[k];
+                let n = tally[k];
+                let total = totals[k];
                 let most = total - n - 1;
                 let run = run_in(part, &follow, base, class, to - at, to, due, d, most);
                 let passed = 1 + run.count;
-                v.tally[k] = with_more(n, passed, total);
+                tally[k] = with_more(n, passed, total);
                 v.count += passed;
                 v.at = run.end;
                 v.prev = class;
@@ -310,11 +392,11 @@ fn walk(w: Watch, part: &[u8], base: usize) -> Fed
                 kind,
                 due,
             } => {
-                let n = v.tally[3];
-                v.starts[n] = at as u32;
-                v.targets[n] = target as u32;
-                v.kinds[n] = kind as u32;
-                v.tally[3] += 1;
+                let n = tally[3];
+                starts[n] = at as u32;
+                targets[n] = target as u32;
+                kinds[n] = kind as u32;
+                tally[3] += 1;
                 v.count += 1;
                 v.at = to;
                 v.prev = 3;
@@ -322,61 +404,55 @@ fn walk(w: Watch, part: &[u8], base: usize) -> Fed
                 v.have = 0;
                 continue;
             }
+            Turned::Rest { to } => {
+                return wait(v, have, len, until(under[0], to));
+            }
         }
     }
-    let d = v.d;
-    if is_fewer(&v.totals, &v.tally) {
-        v.number = 15;
-        v.place = d;
-        return Fed {
-            watch: v,
-            answer: refusal(15, d),
-        };
-    }
-    if d < len {
-        v.number = 16;
-        v.place = d;
-        return Fed {
-            watch: v,
-            answer: refusal(16, d),
-        };
-    }
-    v.got = len;
-    Fed {
-        watch: v,
-        answer: Arrival::Waiting {
-            count: v.count,
-            end: d,
-        },
+    end(v, totals, tally, len)
+}
+
+// The main header has not come whole.
+fn early(mark: Mark) -> Gone
+    ensures { λ r. ⌜ (r .mark ≡ mark) × (r .answer ≡ Waiting 0 0) ⌝ }
+{
+    Gone {
+        mark,
+        answer: Arrival::Waiting { count: 0, end: 0 },
     }
 }
 
 // While the main header is under way.
-fn start(w: Watch, part: &[u8]) -> Fed
-    requires { ⌜ w .got < 3307 ⌝ }
-    ensures { λ r. ⌜ AdvanceIs w (now (part .entry)) r ⌝ }
+fn start(
+    mark: Mark,
+    totals: &mut [usize; 9],
+    tally: &mut [usize; 9],
+    starts: &mut [u32; 64],
+    targets: &mut [u32; 64],
+    kinds: &mut [u32; 64],
+    head: &mut [u8; 3307],
+    under: &mut [u8; 27],
+    part: &[u8],
+) -> Gone
+    requires { ⌜ mark .got < 3307 ⌝ }
+    ensures { λ r. ⌜ AdvanceIs (laid mark (now (totals .entry)) (now (tally .entry)) (now (starts .entry)) (now (targets .entry)) (now (kinds .entry))
+        (now (head .entry)) (now (under .entry))) (now (part .entry))
+        (laid (r .mark) (now (totals .exit)) (now (tally .exit)) (now (starts .exit)) (now (targets .exit)) (now (kinds .exit))
+        (now (head .exit)) (now (under .exit))) (r .answer) ⌝ }
 {
-    let mut v = w;
+    let mut v = mark;
     let base = v.got;
-    let got = keep(&mut v.head, base, part);
+    let got = keep(head, base, part);
     // A fault of the main header is shown where a line ends: until then there is nothing to judge, and then from that line on.
     let next = v.next;
     if got < next {
         v.got = got;
-        return Fed {
-            watch: v,
-            answer: Arrival::Waiting { count: 0, end: 0 },
-        };
+        return early(v);
     }
     let from = v.line;
-    match head_lines(&v.head, got, from) {
+    match head_lines(head, got, from) {
         Reached::Refused(r) => {
-            v.number = r.number;
-            v.place = r.place;
-            return Fed {
-                watch: v,
-                answer: Arrival::Refused(r),
-            };
+            return refuse(v, r.number, r.place);
         }
         Reached::Line { line, end } => {
             v.line = line;
@@ -385,36 +461,26 @@ fn start(w: Watch, part: &[u8]) -> Fed
     }
     v.got = got;
     if got < 3307 {
-        return Fed {
-            watch: v,
-            answer: Arrival::Waiting { count: 0, end: 0 },
-        };
+        return early(v);
     }
-    let d = judge::parts::declared_size(&v.head);
+    let d = judge::parts::declared_size(head);
     if !is_sane(got, 0, 3307, 1, d, 0, 1) {
-        return Fed {
-            watch: v,
-            answer: Arrival::Waiting { count: 0, end: 0 },
-        };
+        return early(v);
     }
     if is_part(3307, d) {
-        v.number = 6;
-        v.place = 3307;
-        return Fed {
-            watch: v,
-            answer: refusal(6, 3307),
-        };
+        return refuse(v, 6, 3307);
     }
-    let totals = judge::parts::totals_of(&v.head);
-    v.totals = totals;
-    v.tally = [0usize, 1, 0, 0, 0, 0, 0, 0, 0];
+    let all = judge::parts::totals_of(head);
+    *totals = all;
+    let one = [0usize, 1, 0, 0, 0, 0, 0, 0, 0];
+    *tally = one;
     v.have = 0;
     v.at = 3307;
     v.count = 1;
     v.d = d;
     v.due = d;
     v.prev = 1;
-    walk(v, part, base)
+    walk(v, totals, tally, starts, targets, kinds, under, part, base)
 }
 
 // A state that could have come of feeding, as far as the walk's safety asks.
@@ -450,52 +516,215 @@ fn is_sane(
     record::header::is_class(prev)
 }
 
-fn advance(w: Watch, part: &[u8]) -> Fed
-    ensures { λ r. ⌜ AdvanceIs w (now (part .entry)) r ⌝ }
+// How many bytes were fed after n more, if none of them is looked at before byte `next`; else 0.
+fn rested(got: usize, n: usize, next: usize) -> usize
+    ensures { λ r. ⌜ ((r ≡ 0 → ⊥) → (r ≡ got + n) × (got + n < next)) ⌝ }
 {
-    let got = w.got;
-    if got < 3307 {
-        return start(w, part);
+    if next <= got {
+        return 0;
     }
-    if !is_sane(got, w.have, w.at, w.count, w.d, w.tally[3], w.prev) {
-        return Fed {
-            watch: w,
-            answer: Arrival::Waiting { count: 0, end: 0 },
+    if next - got <= n {
+        return 0;
+    }
+    got + n
+}
+
+fn advance(
+    mark: Mark,
+    totals: &mut [usize; 9],
+    tally: &mut [usize; 9],
+    starts: &mut [u32; 64],
+    targets: &mut [u32; 64],
+    kinds: &mut [u32; 64],
+    head: &mut [u8; 3307],
+    under: &mut [u8; 27],
+    part: &[u8],
+) -> Gone
+    ensures { λ r. ⌜ AdvanceIs (laid mark (now (totals .entry)) (now (tally .entry)) (now (starts .entry)) (now (targets .entry)) (now (kinds .entry))
+        (now (head .entry)) (now (under .entry))) (now (part .entry))
+        (laid (r .mark) (now (totals .exit)) (now (tally .exit)) (now (starts .exit)) (now (targets .exit)) (now (kinds .exit))
+        (now (head .exit)) (now (under .exit))) (r .answer) ⌝ }
+{
+    let got = mark.got;
+    if got < 3307 {
+        return start(
+            mark,
+            totals,
+            tally,
+            starts,
+            targets,
+            kinds,
+            head,
+            under,
+            part,
+        );
+    }
+    let fed = rested(got, part.len(), mark.next);
+    if fed != 0 {
+        let mut v = mark;
+        v.got = fed;
+        return Gone {
+            mark: v,
+            answer: Arrival::Waiting {
+                count: v.count,
+                end: v.at,
+            },
         };
     }
-    walk(w, part, got)
+    let pointers = tally[3];
+    if !is_sane(
+        got,
+        mark.have,
+        mark.at,
+        mark.count,
+        mark.d,
+        pointers,
+        mark.prev,
+    ) {
+        return early(mark);
+    }
+    walk(
+        mark,
+        totals,
+        tally,
+        starts,
+        targets,
+        kinds,
+        under,
+        part,
+        got,
+    )
+}
+
+// What is right to say after a part of no bytes, which changes nothing.
+fn idle(
+    mark: Mark,
+    totals: &[usize; 9],
+    tally: &[usize; 9],
+    starts: &[u32; 64],
+    targets: &[u32; 64],
+    kinds: &[u32; 64],
+    head: &[u8; 3307],
+    under: &[u8; 27],
+    part: &[u8],
+) -> Arrival
+    ensures { λ r. ⌜ IdleIs (laid mark (now (totals .entry)) (now (tally .entry)) (now (starts .entry)) (now (targets .entry)) (now (kinds .entry))
+        (now (head .entry)) (now (under .entry))) (now (part .entry)) r ⌝ }
+{
+    let mut all = *totals;
+    let mut met = *tally;
+    let mut s = *starts;
+    let mut t = *targets;
+    let mut k = *kinds;
+    let mut h = *head;
+    let mut u = *under;
+    let r = advance(
+        mark,
+        &mut all,
+        &mut met,
+        &mut s,
+        &mut t,
+        &mut k,
+        &mut h,
+        &mut u,
+        part,
+    );
+    r.answer
+}
+
+// One part: the mark by value, the arrays in place.
+pub fn step_in(
+    mark: Mark,
+    totals: &mut [usize; 9],
+    tally: &mut [usize; 9],
+    starts: &mut [u32; 64],
+    targets: &mut [u32; 64],
+    kinds: &mut [u32; 64],
+    head: &mut [u8; 3307],
+    under: &mut [u8; 27],
+    part: &[u8],
+) -> Gone
+    ensures { λ r. ⌜ FedIs (laid mark (now (totals .entry)) (now (tally .entry)) (now (starts .entry)) (now (targets .entry)) (now (kinds .entry))
+        (now (head .entry)) (now (under .entry))) (now (part .entry))
+        (laid (r .mark) (now (totals .exit)) (now (tally .exit)) (now (starts .exit)) (now (targets .exit)) (now (kinds .exit))
+        (now (head .exit)) (now (under .exit))) (r .answer) ⌝ }
+{
+    let number = mark.number;
+    if number != 0 {
+        return Gone {
+            mark,
+            answer: refusal(number, mark.place),
+        };
+    }
+    if part.len() == 0 {
+        let answer = idle(
+            mark,
+            totals,
+            tally,
+            starts,
+            targets,
+            kinds,
+            head,
+            under,
+            part,
+        );
+        return Gone { mark, answer };
+    }
+    advance(
+        mark,
+        totals,
+        tally,
+        starts,
+        targets,
+        kinds,
+        head,
+        under,
+        part,
+    )
 }
 
 // One part, by value.
 pub fn step(w: Watch, part: &[u8]) -> Fed
     ensures { λ r. ⌜ FedIs w (now (part .entry)) (r .watch) (r .answer) ⌝ }
 {
-    let number = w.number;
-    if number != 0 {
-        return Fed {
-            watch: w,
-            answer: refusal(number, w.place),
-        };
-    }
-    if part.len() == 0 {
-        let f = advance(w, part);
-        let answer = f.answer;
-        return Fed { watch: w, answer };
-    }
-    advance(w, part)
+    let mark = w.mark;
+    let mut totals = w.totals;
+    let mut tally = w.tally;
+    let mut starts = w.starts;
+    let mut targets = w.targets;
+    let mut kinds = w.kinds;
+    let mut head = w.head;
+    let mut under = w.under;
+    let r = step_in(
+        mark,
+        &mut totals,
+        &mut tally,
+        &mut starts,
+        &mut targets,
+        &mut kinds,
+        &mut head,
+        &mut under,
+        part,
+    );
+    let next = r.mark;
+    let answer = r.answer;
+    let watch = Watch {
+        mark: next,
+        totals,
+        tally,
+        starts,
+        targets,
+        kinds,
+        head,
+        under,
+    };
+    Fed { watch, answer }
 }
 
 pub fn new() -> Watch
     ensures { λ r. ⌜ Fresh r ⌝ }
 {
-    Watch {
-        head: [0; 3307],
-        under: [0; 27],
-        starts: [0; 64],
-        targets: [0; 64],
-        kinds: [0; 64],
-        totals: [0; 9],
-        tally: [0; 9],
+    let mark = Mark {
         got: 0,
         have: 0,
         at: 0,
@@ -507,13 +736,34 @@ pub fn new() -> Watch
         line: 0,
         prev: 0,
         number: 0,
+    };
+    Watch {
+        mark,
+        totals: [0; 9],
+        tally: [0; 9],
+        starts: [0; 64],
+        targets: [0; 64],
+        kinds: [0; 64],
+        head: [0; 3307],
+        under: [0; 27],
     }
 }
 
+// One part, the watch changed in place: no array of it is copied.
 pub fn feed(w: &mut Watch, part: &[u8]) -> Arrival
     ensures { λ r. ⌜ FedIs (now (w .entry)) (now (part .entry)) (now (w .exit)) r ⌝ }
 {
-    let r = step(*w, part);
-    *w = r.watch;
+    let r = step_in(
+        w.mark,
+        &mut w.totals,
+        &mut w.tally,
+        &mut w.starts,
+        &mut w.targets,
+        &mut w.kinds,
+        &mut w.head,
+        &mut w.under,
+        part,
+    );
+    w.mark = r.mark;
     r.answer
 }

@@ -100,13 +100,6 @@ extern "C" {
 #[repr(C)]
 #[derive(Clone, PartialEq)]
 pub struct Watch {
-    head: [u8; 3307],
-    under: [u8; 27],
-    starts: [u32; 64],
-    targets: [u32; 64],
-    kinds: [u32; 64],
-    totals: [usize; 9],
-    tally: [usize; 9],
     got: usize,
     have: usize,
     at: usize,
@@ -118,17 +111,17 @@ pub struct Watch {
     line: usize,
     prev: u8,
     number: u8,
+    totals: [usize; 9],
+    tally: [usize; 9],
+    starts: [u32; 64],
+    targets: [u32; 64],
+    kinds: [u32; 64],
+    head: [u8; 3307],
+    under: [u8; 27],
 }
 
 /// A place for a watch, filled with ones as an answer is.
 const UNMADE: Watch = Watch {
-    head: [u8::MAX; 3307],
-    under: [u8::MAX; 27],
-    starts: [u32::MAX; 64],
-    targets: [u32::MAX; 64],
-    kinds: [u32::MAX; 64],
-    totals: [usize::MAX; 9],
-    tally: [usize::MAX; 9],
     got: usize::MAX,
     have: usize::MAX,
     at: usize::MAX,
@@ -140,6 +133,13 @@ const UNMADE: Watch = Watch {
     line: usize::MAX,
     prev: u8::MAX,
     number: u8::MAX,
+    totals: [usize::MAX; 9],
+    tally: [usize::MAX; 9],
+    starts: [u32::MAX; 64],
+    targets: [u32::MAX; 64],
+    kinds: [u32::MAX; 64],
+    head: [u8::MAX; 3307],
+    under: [u8::MAX; 27],
 };
 
 fn answered<const N: usize>(call: impl FnOnce(&mut [u64; N])) -> [u64; N] {

@@ -211,7 +211,7 @@ def join_all(products: list[Product], out: PathLike | None = None, force: bool =
     """The products, which follow each other, as one; in memory, or in a new file where `out` names one.
 
     Neighbours are joined in rounds, pairs and then pairs of pairs, which copies less than joining them one after the other and gives the same bytes, by
-    the law that joining is associative (`join-three-same`); where one way is refused the other may not be.
+    the law of trees of joins (`trees-same`); where one way is refused the other may not be.
     """
     if len(products) < 2:
         raise ValueError('a join has two products at least')

@@ -1,32 +1,34 @@
 -- THE CHECK'S ANSWERS, of the bytes: no second answer fits; yes is answered exactly where the bytes are those of a cut; every product is a cut of itself, a
--- cut of a cut is a cut, and whatever request Three writes gets a yes. By cases on the answers. Assumes nothing.
+-- cut of a cut is a cut, whatever request Three writes gets a yes, and where a no stands. By cases on the answers. Assumes nothing.
 use Prim.Native.Nat.{ℕ, _+_, _≤_, _<_}
 use native.Mathlib.Omega.{arith}
 use mathlib.Core.Path.{_≡_, refl, sym, ap, subst, _∙_}
 use mathlib.Core.Bool.{Bool, true, false}
-use mathlib.Core.List.{List}
+use mathlib.Core.List.{List, List·Memᴰ as In}
 use lib.ListN.{length, take}
 use Rattle.calendar.specs.declared.Refusal.{Refusal}
 use Rattle.demands.specs.Product.{Meets}
 use Rattle.demands.proofs.Accepted.{one-list, meets-fit, one-refused}
-use Rattle.parts.specs.Parts.{mainOf, recordsAt, Follows}
-use Rattle.parts.specs.Against.{CutOf, Verdict, alike, unlike, verdict}
+use Rattle.parts.specs.Parts.{bytes, startsFrom, mainOf, recordsAt, Follows}
+use Rattle.parts.specs.Only.{only, isSphr, isAux, isMdr}
+use Rattle.parts.specs.Against.{CutOf, Verdict, alike, unlike, isFixed, verdict, NoAt}
+use Rattle.parts.specs.Against as P
 use Rattle.parts.specs.Pass.{FourAgree}
-use Rattle.parts.specs.Cut.{Window}
-use Rattle.parts.specs.Rewritten.{Holdable}
-use Rattle.parts.specs.TownCut.{cutRecords, IsCut, Unnamed}
+use Rattle.parts.specs.Cut.{Window, Inside, isChosen}
+use Rattle.parts.specs.TownCut.{IsCut, Unnamed}
 use Rattle.parts.proofs.Built.{meets-built}
-use Rattle.parts.proofs.WalkLaws.{walk-first}
-use Rattle.parts.proofs.AgainstLaws.{cut-of}
-use Rattle.parts.proofs.CutHeaderLaws.{Bytes}
-use Rattle.parts.proofs.TownLaws.{town-product, town-records, town-keeps}
+use Rattle.parts.proofs.Unique.{starts-are, starts-in}
+use Rattle.parts.proofs.WalkLaws.{walk-first, walk-length}
+use Rattle.parts.proofs.AgainstLaws.{narrower, cut-of, no-stands, stands-no}
+use Rattle.parts.proofs.Narrower.{chosen-wider}
+use Rattle.parts.proofs.TownLaws.{town-records, town-mdrs, town-sphr, town-aux, town-keeps}
 use Rattle.compare.specs.declared.cut.Checked.{Checked}
 use Rattle.compare.specs.declared.cut.Checked.the-variants as C
 use Rattle.compare.specs.declared.walk.Compared.{Compared}
 use Rattle.compare.specs.declared.walk.Compared.the-variants as R
 use Rattle.compare.specs.Comparing.{Decides}
 use Rattle.compare.specs.Walking.{Both, Products, RecordsIs, comparedAs}
-use Rattle.compare.specs.Check.{refusedAt, IsCutOf, PartsCheck, is, other-field, unmatched, CheckIs, original-unfit, cut-unfit, both}
+use Rattle.compare.specs.Check.{refusedAt, IsCutOf, PartsCheck, is, other-field, unmatched, CheckIs, original-unfit, cut-unfit, both, NotAt, field, at-record, at-end, No}
 use Rattle.compare.proofs.CutOfLaws.{verdict-cut, cut-verdict, cut-itself, cut-on}
 
 -- ---- of a product
@@ -128,6 +130,40 @@ is-cut {a} {b} r e (both t u p) = go e p
     go e (other-field d) = absurd (let z : _≡_ {A = ℕ} 0 1 = cc in omega arith)
     go e (unmatched p f v) = absurd (let z : _≡_ {A = ℕ} 0 1 = cc in omega arith)
 
+-- ---- WHERE A NO STANDS: "a plain no has place 0 for a field, else the start of the first cut record that can't be matched .., else the cut's length"
+placed : {m n : List ℕ} {rs cs : List (List ℕ)} {starts : List ℕ} {long p : ℕ} → FourAgree m n → starts ≡ startsFrom 3307 cs → 3307 + bytes cs ≡ long → NoAt (only isFixed rs) (only isMdr rs) 3307 cs p → NotAt m n rs cs starts long p
+placed {starts = starts} {p = p} f s l (P.unmatched xs y ys e q k n) =
+    let i : In (3307 + bytes xs) starts = subst (In (3307 + bytes xs)) (sym (s ∙ ap (startsFrom 3307) e)) (starts-in 3307 xs y ys) in
+    at-record p xs y ys f (subst (λ (z : ℕ). In z starts) (sym q) i) q e k n
+placed {m} {n} {rs} {cs} {starts} {long} f s l (P.missing k d q) = subst (NotAt m n rs cs starts long) (sym (q ∙ l)) (at-end f k d)
+
+pub no-at : {a b : List ℕ} (p : ℕ) (r : Checked) → r ≡ C.Not p → CheckIs a b r → No a b p
+no-at p r e (original-unfit q g) = absurd (let z : _≡_ {A = ℕ} 0 1 = cc in omega arith)
+no-at p r e (cut-unfit q t g) = absurd (let z : _≡_ {A = ℕ} 0 1 = cc in omega arith)
+no-at {a} {b} p r e (both t u k) = record { original = t; cut = u; stands = go e k }
+  where
+    not-of : {i j : ℕ} → C.Not i ≡ C.Not j → i ≡ j
+    not-of e = cc
+
+    go : {r : Checked} → r ≡ C.Not p → PartsCheck (mainOf a) (mainOf b) (recordsAt a (t .list)) (recordsAt b (u .list)) r → NotAt (mainOf a) (mainOf b) (recordsAt a (t .list)) (recordsAt b (u .list)) (u .list) (length b) p
+    go e (is x) = absurd (let z : _≡_ {A = ℕ} 0 1 = cc in omega arith)
+    go e (other-field d) = subst (NotAt (mainOf a) (mainOf b) (recordsAt a (t .list)) (recordsAt b (u .list)) (u .list) (length b)) (not-of e) (field d)
+    go e (unmatched q f v) =
+        subst (NotAt (mainOf a) (mainOf b) (recordsAt a (t .list)) (recordsAt b (u .list)) (u .list) (length b)) (not-of e)
+        (placed f (starts-are b u) (walk-length (walk-first b u)) (no-stands 3307 (recordsAt b (u .list)) (only isFixed (recordsAt a (t .list))) (only isMdr (recordsAt a (t .list))) q v))
+
+-- and where it stands so, that is the answer
+pub at-no : {a b : List ℕ} {p : ℕ} → No a b p → CheckIs a b (C.Not p)
+at-no {a} {b} n = both (n .original) (n .cut) (go (n .stands))
+  where
+    said : {p : ℕ} → NoAt (only isFixed (recordsAt a (n .original .list))) (only isMdr (recordsAt a (n .original .list))) 3307 (recordsAt b (n .cut .list)) p → verdict (recordsAt b (n .cut .list)) (recordsAt a (n .original .list)) ≡ unlike p
+    said {p} k = stands-no 3307 (recordsAt b (n .cut .list)) (only isFixed (recordsAt a (n .original .list))) (only isMdr (recordsAt a (n .original .list))) p k
+
+    go : {p : ℕ} → NotAt (mainOf a) (mainOf b) (recordsAt a (n .original .list)) (recordsAt b (n .cut .list)) (n .cut .list) (length b) p → PartsCheck (mainOf a) (mainOf b) (recordsAt a (n .original .list)) (recordsAt b (n .cut .list)) (C.Not p)
+    go (field d) = other-field d
+    go (at-record p xs y ys f i q e k m) = unmatched p f (said (P.unmatched xs y ys e q k m))
+    go (at-end f k d) = unmatched (length b) f (said (P.missing k d (sym (walk-length (walk-first b (n .cut))))))
+
 -- ---- every product is a cut of itself
 pub itself : {a : List ℕ} → Meets a → CheckIs a a C.Is
 itself {a} t = both t t (is (cut-itself (mainOf a) (recordsAt a (t .list))))
@@ -141,17 +177,40 @@ cut-of-cut {a} {b} {c} x y =
     both (p .original) (q .cut) (is (cut-on (p .parts) k))
 
 -- ---- "Whatever request Three writes must get a yes"
-pub three-is : {a b : List ℕ} {w : Window} → Bytes a → (c : IsCut a w b) → Holdable (cutRecords a w (c .product)) → CheckIs a b C.Is
-three-is {a} {b} {w} byte c h =
-    let u = town-product byte c h in
-    let rs = recordsAt a (c .product .list) in
+four-kept : {a b : List ℕ} {w : Window} (c : IsCut a w b) → Meets b → FourAgree (mainOf a) (mainOf b)
+four-kept c u =
     let named : (k : ℕ) → 1 ≤ k → k < 10 → Unnamed k = λ k l m. record { low = omega arith; name = λ e. omega arith; start = λ e. omega arith; end = λ e. omega arith; size = λ e. omega arith } in
-    both (c .product) u (is (record {
+    record {
+      instrument = sym (town-keeps c u 5 (named 5 (omega arith) (omega arith)));
+      type = sym (town-keeps c u 7 (named 7 (omega arith) (omega arith)));
+      level = sym (town-keeps c u 8 (named 8 (omega arith) (omega arith)));
+      spacecraft = sym (town-keeps c u 9 (named 9 (omega arith) (omega arith)));
+    }
+
+pub three-is : {a b : List ℕ} {w : Window} (c : IsCut a w b) → Meets b → CheckIs a b C.Is
+three-is {a} {b} {w} c u =
+    let rs = recordsAt a (c .product .list) in
+    both (c .product) u (is (record { fields = four-kept c u; records = subst (λ (cs : List (List ℕ)). CutOf cs rs) (sym (town-records c u)) (cut-of (mainOf a) w rs) }))
+
+-- ---- THE CUT BY A NARROWER WINDOW IS A CUT of the cut by a wider one, both of the same product
+pub narrower-is : {a b d : List ℕ} {w v : Window} (x : IsCut a v b) → Meets b → (z : IsCut a w d) → Meets d → Inside w v → CheckIs b d C.Is
+narrower-is {a} {b} {d} {w} {v} x t z u i =
+    let f = four-kept x t in
+    let g = four-kept z u in
+    let rs = recordsAt a (x .product .list) in
+    let e : recordsAt a (z .product .list) ≡ rs = ap (recordsAt a) (one-list (z .product) (x .product)) in
+    let m : only isMdr (recordsAt d (u .list)) ≡ only (isChosen w) rs = town-mdrs z u ∙ ap (only (isChosen w)) e in
+    let n : only isMdr (recordsAt b (t .list)) ≡ only (isChosen v) rs = town-mdrs x t in
+    both t u (is (record {
       fields = record {
-        instrument = sym (town-keeps byte c h 5 (named 5 (omega arith) (omega arith)));
-        type = sym (town-keeps byte c h 7 (named 7 (omega arith) (omega arith)));
-        level = sym (town-keeps byte c h 8 (named 8 (omega arith) (omega arith)));
-        spacecraft = sym (town-keeps byte c h 9 (named 9 (omega arith) (omega arith)));
+        instrument = sym (f .instrument) ∙ g .instrument;
+        type = sym (f .type) ∙ g .type;
+        level = sym (f .level) ∙ g .level;
+        spacecraft = sym (f .spacecraft) ∙ g .spacecraft;
       };
-      records = subst (λ (cs : List (List ℕ)). CutOf cs rs) (sym (town-records byte c h u)) (cut-of (mainOf a) w rs);
+      records = record {
+        mdrs = rw (m, n) (narrower (isChosen w) (isChosen v) rs (λ r. chosen-wider i r));
+        sphr = town-sphr z u ∙ ap (only isSphr) e ∙ sym (town-sphr x t);
+        aux = town-aux z u ∙ ap (only isAux) e ∙ sym (town-aux x t);
+      };
     }))

@@ -7,9 +7,11 @@ use mathlib.Core.Path.{_≡_, refl, sym, _∙_}
 use mathlib.Core.List.{List, [], _++_}
 use lib.ListN.{length, getD}
 use Rattle.calendar.specs.declared.Refusal.{Refusal}
-use Rattle.tables.specs.Table.{fault}
+use Rattle.tables.specs.Table.{Table, fault}
+use Rattle.tables.specs.Table as T
+use Rattle.tables.specs.Lawful.{Lawful}
 use Rattle.tables.proofs.Laws.{given, not-clean, number-is, nothing-earlier, never-later}
-use Rattle.judge.specs.Table.{table, Clean, Gives, Given, Judged}
+use Rattle.judge.specs.Table.{table, Clean, Given, Judged}
 use Rattle.judge.specs.declared.arrival.Arrival.{Arrival}
 use Rattle.judge.specs.declared.arrival.Arrival.the-variants.{Waiting, Refused}
 use Rattle.finish.specs.Rows.{startOf}
@@ -18,7 +20,7 @@ use Rattle.finish.specs.declared.Finished.the-variants as F
 use Rattle.judge.proofs.WayLaws.{numbers}
 use Rattle.judge.proofs.Local.{lawful}
 use Rattle.judge.proofs.Covering.{whole-come}
-use Rattle.demands.specs.Demands.{start, Grows, Comes, Demand1, Demand2, Demand3}
+use Rattle.demands.specs.Demands.{start, Grows, Comes, Demand1, Demand2, Demand3For, Demand3}
 use Rattle.demands.proofs.Prefix.{unique-arrival, refusal-kept, refusal-final}
 use Rattle.demands.proofs.Accepted.{accepted-meets, meets-accepted}
 use Rattle.demands.proofs.Counting.{counts-are, grows, ends-whole, indexed}
@@ -54,15 +56,19 @@ waits : {a : List ℕ} → Clean a → (s : Arrival) → Judged a s → (c : ℕ
 waits c (Waiting n e) j = (n, e, refl)
 waits c (Refused r) j = absurd (not-clean j c)
 
-comes : (a : List ℕ) (r : Refusal) → Given a (r .number) (r .place) → Comes a r
-comes a r g = record {
+-- of every table whose judge says of an arrival that shows no fault that it waits, and of another the row that is given
+pub comes :
+    (X : Table) → Lawful X → (Says : List ℕ → Arrival → Type 0) → ((a : List ℕ) → T.Clean X a → (s : Arrival) → Says a s → (c : ℕ) × (e : ℕ) × (s ≡ Waiting c e))
+    → ((a : List ℕ) (r : Refusal) → T.Given X a (r .number) (r .place) → (s : Arrival) → Says a s → s ≡ Refused r)
+    → (a : List ℕ) (r : Refusal) → T.Given X a (r .number) (r .place) → Comes Says (T.Gives X) a r
+comes X law Says clean one a r g = record {
   shown = g .shown;
   gives = g .gives;
-  waits = λ b t e h. waits (nothing-earlier table lawful b t (at-prefix e) h);
-  refused = λ b t e h s j. unique-arrival b s (Refused r) j (given (never-later table lawful b t (at-prefix e) h));
+  waits = λ b t e h. clean b (nothing-earlier X law b t (at-prefix e) h);
+  refused = λ b t e h. one b r (given (never-later X law b t (at-prefix e) h));
 }
   where
-    at-prefix : {d : List ℕ} → d ≡ a → Gives d (fault (r .number) (r .place) (g .shown))
+    at-prefix : {d : List ℕ} → d ≡ a → T.Gives X d (fault (r .number) (r .place) (g .shown))
     at-prefix e = rw e (g .gives)
 
 accepted :
@@ -75,9 +81,9 @@ accepted a t rows rows′ c e n o f =
 pub demand-3 : Demand3
 demand-3 = record {
   final = λ a t r g. refusal-kept a t g;
-  final-finished = λ a t r g rows rows′ s f. refusal-final a t g rows s rows′ f .0;
+  final-finished = λ a t r _ g rows rows′ s f. refusal-final a t g rows s rows′ f .0;
   counted = λ a c e o. counts-are o;
   waiting = λ a t c e n d o q. grows o t q;
   accepted = accepted;
-  soonest = λ a r g. comes a r g;
+  soonest = comes table lawful Judged (λ a c. waits {a = a} c) (λ a r g s j. unique-arrival a s (Refused r) j g);
 }

@@ -6,7 +6,7 @@ use mathlib.Core.Path.{_≡_}
 use mathlib.Core.List.{List, [], _∷_, _++_}
 use lib.ListN.{length, getD}
 use Rattle.calendar.specs.declared.Refusal.{Refusal}
-use Rattle.tables.specs.Table.{fault}
+use Rattle.tables.specs.Table.{Row, fault}
 use Rattle.judge.specs.Table.{Gives, Judged}
 use Rattle.judge.specs.Extent.{ExtentIs}
 use Rattle.judge.specs.declared.arrival.Arrival.{Arrival}
@@ -57,24 +57,32 @@ pub record Grows (a : List ℕ) (c e : ℕ) (b : List ℕ) (n d : ℕ) : Type 0 
   pub end : e ≤ d
   pub each : (k : ℕ) → k < c → Stays a b k
 
--- the refusal r of a comes at `shown` bytes: of the arrivals that a begins with, those that are shorter wait, and all others get r
-pub record Comes (a : List ℕ) (r : Refusal) : Type 0 where
-  pub shown : ℕ
-  pub gives : Gives a (fault (r .number) (r .place) shown)
-  pub waits : (b t : List ℕ) → b ++ t ≡ a → length b < shown → (s : Arrival) → Judged b s → (c : ℕ) × (e : ℕ) × (s ≡ Waiting c e)
-  pub refused : (b t : List ℕ) → b ++ t ≡ a → shown ≤ length b → (s : Arrival) → Judged b s → s ≡ Refused r
+-- OF A JUDGE OF ARRIVALS, whichever it is: `Says a r` is that r is right to say of the arrival a, and `Gives a f` that f is the row that its table gives of a
+module _ (Says : List ℕ → Arrival → Type 0) (Gives : List ℕ → Row → Type 0) where
+  -- the refusal r of a comes at `shown` bytes: of the arrivals that a begins with, those that are shorter wait, and all others get r
+  pub record Comes (a : List ℕ) (r : Refusal) : Type 0 where
+    pub shown : ℕ
+    pub gives : Gives a (fault (r .number) (r .place) shown)
+    pub waits : (b t : List ℕ) → b ++ t ≡ a → length b < shown → (s : Arrival) → Says b s → (c : ℕ) × (e : ℕ) × (s ≡ Waiting c e)
+    pub refused : (b t : List ℕ) → b ++ t ≡ a → shown ≤ length b → (s : Arrival) → Says b s → s ≡ Refused r
 
--- DEMAND 3, of an arrival a and every longer one, a ++ t
-pub record Demand3 : Type 0 where
-  -- "A refusal of an arrival is final: every longer arrival, finished or not, gets the same number and place"
-  pub final : (a t : List ℕ) (r : Refusal) → Judged a (Refused r) → (s : Arrival) → Judged (a ++ t) s → s ≡ Refused r
-  pub final-finished : (a t : List ℕ) (r : Refusal) → Judged a (Refused r) → (rows rows′ : List (List ℕ)) (s : Finished) → FinishedIs (a ++ t) rows s rows′ → s ≡ F.Refused r
-  -- "What was counted stays, at the same place and size": what is counted; where the longer one waits; where it is accepted as a finished product,
-  -- whose rows have the starts of its n records
-  pub counted : (a : List ℕ) (c e : ℕ) → Judged a (Waiting c e) → Counted a c e
-  pub waiting : (a t : List ℕ) (c e n d : ℕ) → Judged a (Waiting c e) → Judged (a ++ t) (Waiting n d) → Grows a c e (a ++ t) n d
-  pub accepted :
-      (a t : List ℕ) (rows rows′ : List (List ℕ)) (c e n : ℕ) → Judged a (Waiting c e) → FinishedIs (a ++ t) rows (F.Accepted n) rows′
-      → Grows a c e (a ++ t) n (length (a ++ t)) × ((k : ℕ) → k < n → startOf (getD rows′ k []) ≡ start (a ++ t) k)
-  -- "A refusal comes at the shortest arrival that shows the fault, never later"
-  pub soonest : (a : List ℕ) (r : Refusal) → Judged a (Refused r) → Comes a r
+  -- DEMAND 3, of an arrival a and every longer one, a ++ t. `Known a` is asked where what the judge said of a is held against the finished judge, which
+  -- may not know all of its refusals
+  pub record Demand3For (Known : List ℕ → Type 0) : Type 0 where
+    -- "A refusal of an arrival is final: every longer arrival, finished or not, gets the same number and place"
+    pub final : (a t : List ℕ) (r : Refusal) → Says a (Refused r) → (s : Arrival) → Says (a ++ t) s → s ≡ Refused r
+    pub final-finished :
+        (a t : List ℕ) (r : Refusal) → Known a → Says a (Refused r) → (rows rows′ : List (List ℕ)) (s : Finished) → FinishedIs (a ++ t) rows s rows′ → s ≡ F.Refused r
+    -- "What was counted stays, at the same place and size": what is counted; where the longer one waits; where it is accepted as a finished product,
+    -- whose rows have the starts of its n records
+    pub counted : (a : List ℕ) (c e : ℕ) → Says a (Waiting c e) → Counted a c e
+    pub waiting : (a t : List ℕ) (c e n d : ℕ) → Says a (Waiting c e) → Says (a ++ t) (Waiting n d) → Grows a c e (a ++ t) n d
+    pub accepted :
+        (a t : List ℕ) (rows rows′ : List (List ℕ)) (c e n : ℕ) → Says a (Waiting c e) → FinishedIs (a ++ t) rows (F.Accepted n) rows′
+        → Grows a c e (a ++ t) n (length (a ++ t)) × ((k : ℕ) → k < n → startOf (getD rows′ k []) ≡ start (a ++ t) k)
+    -- "A refusal comes at the shortest arrival that shows the fault, never later"
+    pub soonest : (a : List ℕ) (r : Refusal) → Says a (Refused r) → Comes a r
+
+-- DEMAND 3 of the arrival judge; all that it says the finished judge knows
+abbrev pub Demand3 : Type 0
+Demand3 = Demand3For Judged Gives (λ (a : List ℕ). Unit)

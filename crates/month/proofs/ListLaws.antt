@@ -89,8 +89,10 @@ pub counts-products : {ps : List (List ℕ)} {v : List ℕ} → Reports ps v →
 counts-products none = refl
 counts-products (more {v = v} {x = x} s c r) = omega (arith, plus-at v x 0, adds-one c, counts-products r)
 
-pub too-many : {ps : List (List ℕ)} {rs : List Added} {y : List ℕ} → Lent empty ps rs y → 4096 < length ps → AllIn rs → ⊥
-too-many l h i = let r = has-report l .1 in omega (arith, counts-products r, ap (λ (z : List ℕ). getD z 0 0) (lent-report l i r), lent-within empty-within l i .products)
+pub too-many : {x y : List ℕ} {ps : List (List ℕ)} {rs : List Added} → length x ≡ 38 → Within x → Lent x ps rs y → 4096 < getD x 0 0 + length ps → AllIn rs → ⊥
+too-many {x} e w l h i =
+    let r = has-report l in
+    omega (arith, counts-products (r .1), plus-at x (r .0) 0, ap (λ (z : List ℕ). getD z 0 0) (lent-adds e l i (r .1)), lent-within w l i .products)
 
 -- ---- "If a list in two orders never meets 36, both give the same report"
 report-perm : {ps qs : List (List ℕ)} {v : List ℕ} → List·Permᴰ ps qs → Reports ps v → Reports qs v
@@ -100,16 +102,17 @@ report-perm (List·Permᴰ·swap {a′ = a′} {b′ = b′} e f) (more {v = v} 
     subst (Reports _) (plus-swap w v x) (more t (subst (λ (a : List ℕ). Contributes a t w) f d) (more s (subst (λ (a : List ℕ). Contributes a s v) e c) r))
 report-perm (List·Permᴰ·trans d e) r = report-perm e (report-perm d r)
 
-pub two-orders : {ps qs : List (List ℕ)} {rs ss : List Added} {y z : List ℕ} → List·Permᴰ ps qs → Lent empty ps rs y → AllIn rs → Lent empty qs ss z → AllIn ss → y ≡ z
-two-orders d l i m j = let r = has-report l .1 in lent-report l i r ∙ sym (lent-report m j (report-perm d r))
+-- from whatever report x, new or not
+module _ {x : List ℕ} (e : length x ≡ 38) where
+  pub two-orders : {ps qs : List (List ℕ)} {rs ss : List Added} {y z : List ℕ} → List·Permᴰ ps qs → Lent x ps rs y → AllIn rs → Lent x qs ss z → AllIn ss → y ≡ z
+  two-orders d l i m j = let r = has-report l .1 in lent-adds e l i r ∙ sym (lent-adds e m j (report-perm d r))
 
--- and a list that does not meet it in one order meets it in none
-pub any-order : {ps qs : List (List ℕ)} {rs ss : List Added} {y z : List ℕ} → List·Permᴰ ps qs → Lent empty ps rs y → AllIn rs → Lent empty qs ss z → AllIn ss × (y ≡ z)
-any-order d l i m =
-    let r = has-report l .1 in
-    let w = subst Within (lent-report l i r ∙ sym (empty-plus _ (report-length r))) (lent-within empty-within l i) in
-    let j = never-36 (report-perm d r) w m in
-    (j, two-orders d l i m j)
+  -- and a list that does not meet it in one order meets it in none
+  pub any-order : {ps qs : List (List ℕ)} {rs ss : List Added} {y z : List ℕ} → Within x → List·Permᴰ ps qs → Lent x ps rs y → AllIn rs → Lent x qs ss z → AllIn ss × (y ≡ z)
+  any-order w d l i m =
+      let r = has-report l .1 in
+      let j = never-36 (report-perm d r) (subst Within (lent-adds e l i r) (lent-within w l i)) m in
+      (j, two-orders d l i m j)
 
 -- ---- TWO LISTS, one after the other: the report is the sum of their reports
 pub report-append : {ps qs : List (List ℕ)} {v w : List ℕ} → Reports ps v → Reports qs w → Reports (ps ++ qs) (plus v w)
@@ -117,22 +120,24 @@ report-append {qs = qs} {w = w} none r = subst (Reports qs) (sym (empty-plus w (
 report-append {ps = a ∷ ps} {qs = qs} {w = w} (more {v = v} {x = x} s c q) r = subst (Reports (a ∷ (ps ++ qs))) (sym (plus-assoc v x w)) (more s c (report-append q r))
 
 -- so the merge of the reports of two lists is the report of the list, and is refused where a product of the list is
-merge-whole : {ls : List (List ℕ)} {ts : List Added} {x y z w : List ℕ} {m : Merged} → Reports ls (plus x y) → Lent empty ls ts z → MergeIs x y m w → (AllIn ts → (m ≡ M.Done) × (w ≡ z)) × (m ≡ M.Done → AllIn ts × (w ≡ z))
-merge-whole {x = x} {y = y} {z = z} r n (merged u) =
-    let i = never-36 r (subst Within (sym (empty-plus (plus x y) (report-length r))) u) n in
-    let e = sym (lent-report n i r) in
-    ((λ _. (refl, e)), (λ _. (i, e)))
-merge-whole {x = x} {y = y} r n (over d) =
-    ((λ i. absurd (d (subst Within (lent-report n i r) (lent-within empty-within n i)))), (λ q. absurd (let z : _≡_ {A = ℕ} 0 1 = cc in omega arith)))
-
-pub merge-lists :
-    {ps qs : List (List ℕ)} {rs ss ts : List Added} {x y z w : List ℕ} {m : Merged}
-    → Lent empty ps rs x → AllIn rs → Lent empty qs ss y → AllIn ss → Lent empty (ps ++ qs) ts z → MergeIs x y m w
+merge-whole :
+    {ls : List (List ℕ)} {ts : List Added} {o v x y z w : List ℕ} {m : Merged} → length o ≡ 38 → Within o → Reports ls v → plus o v ≡ plus x y → Lent o ls ts z → MergeIs x y m w
     → (AllIn ts → (m ≡ M.Done) × (w ≡ z)) × (m ≡ M.Done → AllIn ts × (w ≡ z))
-merge-lists {ps} {qs} {ts = ts} {x = x} {y = y} {z = z} l i k j n q =
-    let r = has-report l .1 in
-    let s = has-report k .1 in
-    let e = lent-report l i r in
-    let d = lent-report k j s in
-    let f : plus (has-report l .0) (has-report k .0) ≡ plus x y = ap (λ (v : List ℕ). plus v (has-report k .0)) (sym e) ∙ ap (plus x) (sym d) in
-    merge-whole (subst (Reports (ps ++ qs)) f (report-append r s)) n q
+merge-whole e wo r q n (merged u) =
+    let i = never-36 r (subst Within (sym q) u) n in
+    let d = sym q ∙ sym (lent-adds e n i r) in
+    ((λ _. (refl, d)), (λ _. (i, d)))
+merge-whole e wo r q n (over d) =
+    ((λ i. absurd (d (subst Within (lent-adds e n i r ∙ q) (lent-within wo n i)))), (λ q. absurd (let z : _≡_ {A = ℕ} 0 1 = cc in omega arith)))
+
+-- the first list from whatever report o, the second from a new one, and the whole from o
+pub merge-lists :
+    {ps qs : List (List ℕ)} {rs ss ts : List Added} {o x y z w : List ℕ} {m : Merged} → length o ≡ 38 → Within o
+    → Lent o ps rs x → AllIn rs → Lent empty qs ss y → AllIn ss → Lent o (ps ++ qs) ts z → MergeIs x y m w
+    → (AllIn ts → (m ≡ M.Done) × (w ≡ z)) × (m ≡ M.Done → AllIn ts × (w ≡ z))
+merge-lists {o = o} {x = x} e wo l i k j n q =
+    let r = has-report l in
+    let s = has-report k in
+    let a = lent-adds e l i (r .1) in
+    let d = lent-report k j (s .1) in
+    merge-whole e wo (report-append (r .1) (s .1)) (sym (plus-assoc o (r .0) (s .0)) ∙ ap (λ (v : List ℕ). plus v (s .0)) (sym a) ∙ ap (plus x) (sym d)) n q

@@ -83,6 +83,19 @@ merge-associates {x} {y} {z} {xy} {yz} {u} {v} {r} {s} a b c d =
     let m = merge-within (within-at (ap (plus x) (sym (k .1))) all) d in
     (k .0, m .0, q .1 ∙ e ∙ ap (plus x) (sym (k .1)) ∙ sym (m .1))
 
+-- and from the right
+pub merge-associates-back :
+    {x y z xy yz u v : List ℕ} {r s : Merged} → MergeIs y z M.Done yz → MergeIs x yz M.Done v → MergeIs x y r xy → MergeIs xy z s u
+    → (r ≡ M.Done) × (s ≡ M.Done) × (u ≡ v)
+merge-associates-back {x} {y} {z} {xy} {yz} {u} {v} {r} {s} a b c d =
+    let p = merge-done M.Done refl a in
+    let q = merge-done M.Done refl b in
+    let e : plus x yz ≡ plus (plus x y) z = ap (plus x) (p .1) ∙ sym (plus-assoc x y z) in
+    let all : Within (plus (plus x y) z) = within-at e (q .0) in
+    let k = merge-within (within-left (plus x y) z all) c in
+    let m = merge-within (within-at (ap (λ (l : List ℕ). plus l z) (sym (k .1))) all) d in
+    (k .0, m .0, m .1 ∙ ap (λ (l : List ℕ). plus l z) (k .1) ∙ sym e ∙ sym (q .1))
+
 -- a new report is the unit, on either side
 pub merge-empty : {x z : List ℕ} {r : Merged} → length x ≡ 38 → Within x → MergeIs x empty r z → (r ≡ M.Done) × (z ≡ x)
 merge-empty {x} e w m = let q = merge-within (within-at (sym (plus-empty x e)) w) m in (q .0, q .1 ∙ plus-empty x e)

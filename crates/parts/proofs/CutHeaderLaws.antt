@@ -30,12 +30,12 @@ use Rattle.text.specs.Writing.{fitsText, fitsNumber}
 use Rattle.text.specs.declared.Number.the-variants as N
 use Rattle.mphr.specs.Layout.{fields, widths, kinds, widthOf, kindOf, lineStart}
 use Rattle.mphr.specs.Table.{valued}
-use Rattle.mphr.specs.Lines.{textFits, numberFits, timeFits}
+use Rattle.mphr.specs.Lines.{textFits, numberFits, timeFits, isLong}
 use Rattle.demands.specs.Product.{size, Meets}
 use Rattle.parts.specs.Parts.{bytes, bytesOf, Own, count, Fits, Tiles, Built, mainOf, recordsAt}
 use Rattle.parts.specs.Only.{only, isSphr}
 use Rattle.parts.specs.Cut.{Window, isChosen, isKept, cutParts}
-use Rattle.parts.specs.Rewritten.{valueOf, text, number, time, whole, fitsLine, Rewritten, Counts, Anew, anew, valuesOf, countLines, Holdable}
+use Rattle.parts.specs.Rewritten.{valueOf, text, number, time, whole, spelling, fitsLine, Rewritten, Counts, Anew, anew, valuesOf, countLines, Holdable}
 use Rattle.parts.specs.CutHeader.{sooner, later, firstFrom, lastFrom, firstStart, lastStop, toSecond, stamp, renamed, sensingStart, sensingEnd, otherLines, cutValues}
 use Rattle.parts.proofs.OnlyLaws.{only-in}
 use Rattle.parts.proofs.Built.{built-meets, meets-built}
@@ -126,7 +126,7 @@ counts-fit rs l h f =
     )
 
 -- ---- times
-abbrev Valid : Time → Type 0
+abbrev pub Valid : Time → Type 0
 Valid T.Undefined = Unit
 Valid (T.At d m) = (d < 65536) × (m ≤ lastMilli d)
 
@@ -153,9 +153,13 @@ valid-later (T.At d m) u v w = picked (isAfter (compared u (T.At d m))) u (T.At 
 abbrev pub Bytes : List ℕ → Type 0
 Bytes r = (k : ℕ) → getD r k 0 < 256
 
-own-times : (r : List ℕ) → timedAt r 0 ≡ true → (isTime (timeAt r 8) ≡ true) × (isTime (timeAt r 14) ≡ true)
+pub own-times : (r : List ℕ) → timedAt r 0 ≡ true → (isTime (timeAt r 8) ≡ true) × (isTime (timeAt r 14) ≡ true)
 unfolding timedAt
 own-times r e = both (isTime (timeAt r 8)) (isTime (timeAt r 14)) (both (isTime (timeAt r 8) && isTime (timeAt r 14)) _ e .0)
+
+-- a time of six bytes
+pub time-valid : (r : List ℕ) (at : ℕ) → Bytes r → isTime (timeAt r at) ≡ true → Valid (timeAt r at)
+time-valid r at f = valid-bits (beAt r at 6) (beAt-lt r f at 6)
 
 first-valid : (t : Time) (rs : List (List ℕ)) → Valid t → ((r : List ℕ) → In r rs → Valid (timeAt r 8)) → Valid (firstFrom t rs)
 first-valid t [] v f = v
@@ -250,11 +254,20 @@ line-10 : (g : General) → fitsGeneral false g ≡ true → fitsLine 10 (time g
 unfolding kindOf kinds fields timeFits
 line-10 g e = e
 
+-- a time of line 10 or 11 is spelled as its 15 bytes
+pub stamp-10 : (m : List ℕ) (g : General) → spelling m 10 (time g) ≡ stamp g
+unfolding kindOf kinds widthOf widths fields isLong
+stamp-10 m g = refl
+
+pub stamp-11 : (m : List ℕ) (g : General) → spelling m 11 (time g) ≡ stamp g
+unfolding kindOf kinds widthOf widths fields isLong
+stamp-11 m g = refl
+
 line-11 : (g : General) → fitsGeneral false g ≡ true → fitsLine 11 (time g) ≡ true
 unfolding kindOf kinds fields timeFits
 line-11 g e = e
 
-unset-lines : AllFit (anew 64 (number N.Undefined) ∷ anew 65 (number N.Undefined) ∷ anew 66 (number N.Undefined) ∷ anew 67 (number N.Undefined) ∷ anew 68 (number N.Undefined) ∷ anew 69 (number N.Undefined) ∷ anew 70 (number N.Undefined) ∷ anew 71 (text (84 ∷ [])) ∷ [])
+pub unset-lines : AllFit (anew 64 (number N.Undefined) ∷ anew 65 (number N.Undefined) ∷ anew 66 (number N.Undefined) ∷ anew 67 (number N.Undefined) ∷ anew 68 (number N.Undefined) ∷ anew 69 (number N.Undefined) ∷ anew 70 (number N.Undefined) ∷ anew 71 (text (84 ∷ [])) ∷ [])
 unfolding kindOf kinds widthOf widths fields numberFits textFits runOf lead
 unset-lines = (refl, (refl, (refl, (refl, (refl, (refl, (refl, (refl, tt))))))))
 
@@ -271,12 +284,12 @@ module _ {m : List ℕ} {rs : List (List ℕ)} (w : Window) (b : Built m rs) (by
   start-valid : (r : List ℕ) → In r (only (isChosen w) rs) → Valid (timeAt r 8)
   start-valid r n =
       let i = only-in (isChosen w) r rs n .0 in
-      valid-bits (beAt r 8 6) (beAt-lt r (byte r i) 8 6) (own-times r (b .tiles .own r i .times) .0)
+      time-valid r 8 (byte r i) (own-times r (b .tiles .own r i .times) .0)
 
   stop-valid : (r : List ℕ) → In r (only (isChosen w) rs) → Valid (timeAt r 14)
   stop-valid r n =
       let i = only-in (isChosen w) r rs n .0 in
-      valid-bits (beAt r 14 6) (beAt-lt r (byte r i) 14 6) (own-times r (b .tiles .own r i .times) .1)
+      time-valid r 14 (byte r i) (own-times r (b .tiles .own r i .times) .1)
 
   cut-lines-fit : AllFit (otherLines m w rs)
   cut-lines-fit =

@@ -26,15 +26,15 @@ use Rattle.parts.proofs.HeaderLaws.{AllFit, values-fit, counts-are, rew
 use Rattle.parts.proofs.CutHeaderLaws.{counts-fit, Print, print-append, print-take, print-drop, name-line, name-long, name-prints}
 use Rattle.parts.proofs.JoinLaws.{join-tiles}
 
-module _ (x y : List ℕ) (l : length x ≡ 67) (k : length y ≡ 67) (p : Print x) (q : Print y) where
-  ended-long : length (endedAs x y) ≡ 67
-  ended-long = simp (length-append, length-take, length-drop) (omega arith)
+pub ended-long : (x y : List ℕ) → length x ≡ 67 → length y ≡ 67 → length (endedAs x y) ≡ 67
+ended-long x y l k = simp (length-append, length-take, length-drop) (omega arith)
 
+module _ (x y : List ℕ) (l : length x ≡ 67) (k : length y ≡ 67) (p : Print x) (q : Print y) where
   ended-text : Print (endedAs x y)
   ended-text = print-append (take 32 x) _ (print-take 32 x p) (print-append (take 15 (drop 32 y)) _ (print-take 15 (drop 32 y) (print-drop 32 y q)) (print-drop 47 x p))
 
   ended-fits : fitsText 67 (endedAs x y) ≡ true
-  ended-fits = rw (eq-eqb (length (endedAs x y)) 67 ended-long) (in-each 32 126 (endedAs x y) 0 67 (λ j h. let z : 0 + j ≡ j = omega arith in rw z (ended-text j (omega (arith, ended-long)))))
+  ended-fits = rw (eq-eqb (length (endedAs x y)) 67 (ended-long x y l k)) (in-each 32 126 (endedAs x y) 0 67 (λ j h. let z : 0 + j ≡ j = omega arith in rw z (ended-text j (omega (arith, ended-long x y l k)))))
 
 -- a value of another header fits its own line
 pub copied-fits : {n : List ℕ} {ss : List (List ℕ)} → Built n ss → (k : ℕ) → k < 72 → fitsLine k (copied (valueOf n k)) ≡ true

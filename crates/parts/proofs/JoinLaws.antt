@@ -1,11 +1,11 @@
--- THE JOIN IS A PRODUCT (02, request Seven), whatever header fits its list; every MDR of the two is in it once; and joining three is one, either way. By
+-- THE JOIN IS A PRODUCT (02, request Seven), whatever header fits its list; every MDR of the two is in it once. By
 -- the law of assembled lists; the order by sections. Assumes nothing.
 use Prim.Native.Nat.{ℕ, _+_, _≤_, _<_}
 use native.Mathlib.Omega.{arith}
-use mathlib.Core.Path.{_≡_, refl, sym, ap, _∙_}
+use mathlib.Core.Path.{_≡_, refl, ap, _∙_}
 use mathlib.Core.Bool.{Bool, true, false, _&&_}
 use mathlib.Core.Logic.{_⊎_, inl, inr, ⊎-elim}
-use mathlib.Core.List.{List, [], _∷_, _++_, List·Memᴰ as In, List·Memᴰ·append-cases as in-append, append-nil, append-assoc}
+use mathlib.Core.List.{List, [], _∷_, _++_, List·Memᴰ as In, List·Memᴰ·append-cases as in-append, append-nil}
 use borrow.Author.Tests.{ne-eqb, lt-leb}
 use lib.Dec.{eqb, leb}
 use Rattle.record.specs.Follow.{firstAfter}
@@ -17,7 +17,7 @@ use Rattle.parts.specs.Join.{together, joinParts}
 use Rattle.parts.proofs.OnlyLaws.{only-in, only-append, only-none, only-all}
 use Rattle.parts.proofs.FollowLaws.{only-follows, section, sect-global, sect-variable, sect-mdr}
 use Rattle.parts.proofs.Assembled.{Ready, assembled-tiles, assembled-bytes, after-three}
-use Rattle.parts.proofs.CutLaws.{of-class, in-classes, assembled-only, assembled-front, low-mdr, low-in}
+use Rattle.parts.proofs.CutLaws.{of-class, in-classes, assembled-only, assembled-front, assembled-pointers, low-mdr, low-in}
 
 module _ (rs : List (List ℕ)) where
   global-in : (r : List ℕ) → In r (only isGlobal rs) → (4 ≤ class r 0) × (class r 0 ≤ 5)
@@ -135,7 +135,11 @@ module _ (m : List ℕ) (rs ss : List (List ℕ)) where
   pub join-sphr : only isSphr (joinParts m rs ss) ≡ only isSphr rs
   join-sphr = assembled-front m (only isSphr rs) (together rs ss) two-in (together-four rs ss)
 
--- ---- THREE PRODUCTS: the times of the main header are the first's, either way
+  -- "IPRs as in request Three": what `firsts` gives is told by `firsts-are`
+  pub join-pointers : only (isOf 3) (joinParts m rs ss) ≡ pointers m (base (only isSphr rs) (together rs ss)) (firsts 0 (together rs ss))
+  join-pointers = assembled-pointers m (only isSphr rs) (together rs ss) two-in (together-four rs ss)
+
+-- ---- of the main header the pointers have its times alone
 ipr-same : (m m′ r : List ℕ) (t : ℕ) → part m 8 12 ≡ part m′ 8 12 → ipr m r t ≡ ipr m′ r t
 ipr-same m m′ r t e = ap (λ (l : List ℕ). 3 ∷ 0 ∷ 0 ∷ 1 ∷ 0 ∷ 0 ∷ 0 ∷ 27 ∷ (l ++ (part r 0 3 ++ word t))) e
 
@@ -146,9 +150,3 @@ pointers-same m m′ b (x ∷ es) e =
 
 pub assembled-same : (m m′ : List ℕ) (front ks : List (List ℕ)) → part m 8 12 ≡ part m′ 8 12 → assembled m front ks ≡ assembled m′ front ks
 assembled-same m m′ front ks e = ap (λ (l : List (List ℕ)). front ++ (l ++ ks)) (pointers-same m m′ (base front ks) (firsts 0 ks) e)
-
-pub join-assoc : (m m′ n : List ℕ) (rs ss us : List (List ℕ)) → part m 8 12 ≡ part m′ 8 12 → joinParts m′ (joinParts m rs ss) us ≡ joinParts m rs (joinParts n ss us)
-join-assoc m m′ n rs ss us e = assembled-same m′ m (only isSphr (joinParts m rs ss)) (together (joinParts m rs ss) us) (sym e) ∙ ap (λ (f : List (List ℕ)). assembled m f (together (joinParts m rs ss) us)) (join-sphr m rs ss) ∙ ap (assembled m (only isSphr rs)) lists
-  where
-    lists : together (joinParts m rs ss) us ≡ together rs (joinParts n ss us)
-    lists = rw (join-globals m rs ss, join-variables m rs ss, join-mdrs m rs ss, join-variables n ss us, join-mdrs n ss us) (simp append-assoc)

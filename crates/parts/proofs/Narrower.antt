@@ -24,16 +24,16 @@ use Rattle.parts.proofs.OnlyLaws.{only-in, only-only, only-same}
 use Rattle.parts.proofs.CutLaws.{of-class, assembled-only, low-in, cut-sphr}
 use Rattle.parts.proofs.CutHeaderLaws.{Bytes, parts-byte, stamp-long, name-long, cut-is-built}
 use Rattle.parts.proofs.JoinLaws.{assembled-same}
-use Rattle.parts.proofs.JoinThree.{Agree, agree-spelled, count-agree, part-same}
+use Rattle.parts.proofs.JoinLines.{apart-kept, Match, match-spelled, count-match, part-same}
 use Rattle.parts.proofs.Unique.{main-back, parts-back, one-rewritten}
 use Rattle.parts.proofs.TimeOrder.{within-inside}
 
 -- ---- the records
-low-chosen : (w : Window) (r : List ℕ) → class r 0 ≤ 3 → isChosen w r ≡ false
+pub low-chosen : (w : Window) (r : List ℕ) → class r 0 ≤ 3 → isChosen w r ≡ false
 unfolding isChosen
 low-chosen w r h = rw (ne-eqb (class r 0) 8 (λ e. omega arith))
 
-low-kept : (w : Window) (r : List ℕ) → class r 0 ≤ 3 → isKept w r ≡ false
+pub low-kept : (w : Window) (r : List ℕ) → class r 0 ≤ 3 → isKept w r ≡ false
 low-kept w r h = rw (low-in 4 7 r (omega arith) h, low-chosen w r h)
 
 absorbs : (x y : Bool) → (y ≡ true → x ≡ true) → x && y ≡ y
@@ -42,7 +42,7 @@ absorbs false true f = f refl
 absorbs false false f = refl
 
 module _ {w v : Window} (i : Inside w v) (r : List ℕ) where
-  chosen-wider : isChosen w r ≡ true → isChosen v r ≡ true
+  pub chosen-wider : isChosen w r ≡ true → isChosen v r ≡ true
   unfolding isChosen
   chosen-wider e = go (isMdr r) e
     where
@@ -146,21 +146,14 @@ module _ {m m′ m″ : List ℕ} {rs : List (List ℕ)} {w v : Window} (b : Bui
       ∙ ap (λ (z : List ℕ). renamed z (sensingStart m w rs) (sensingEnd m w rs)) n
       ∙ renamed-twice (valueOf m 0) (sensingStart m v rs) (sensingEnd m v rs) (name-long b) (sensingStart m w rs) (sensingEnd m w rs)
 
-  lines-agree : Agree m′ m (otherLines m v rs) (otherLines m′ w (cutParts m v rs)) (otherLines m w rs)
-  lines-agree = (
-    refl,
+  lines-match : Match m′ m (otherLines m′ w (cutParts m v rs)) (otherLines m w rs)
+  lines-match = (
     refl,
     same-name,
     (
       refl,
-      refl,
       ap (λ (g : General). spelling m′ 10 (time g)) same-start,
-      (
-        refl,
-        refl,
-        ap (λ (g : General). spelling m′ 11 (time g)) same-end,
-        (refl, refl, refl, (refl, refl, refl, (refl, refl, refl, (refl, refl, refl, (refl, refl, refl, (refl, refl, refl, (refl, refl, refl, (refl, refl, refl, tt)))))))),
-      ),
+      (refl, ap (λ (g : General). spelling m′ 11 (time g)) same-end, (refl, refl, (refl, refl, (refl, refl, (refl, refl, (refl, refl, (refl, refl, (refl, refl, (refl, refl, tt))))))))),
     ),
   )
 
@@ -169,12 +162,12 @@ module _ {m m′ m″ : List ℕ} {rs : List (List ℕ)} {w v : Window} (b : Bui
       let q = cutParts m w rs in
       let z : Rewritten m′ m″ (valuesOf (countLines q (otherLines m′ w (cutParts m v rs)))) =
       subst (λ (l : List (List ℕ)). Rewritten m′ m″ (valuesOf (countLines l (otherLines m′ w (cutParts m v rs))))) (narrower-records rs i x) y in
-      let g = count-agree m′ m (cutParts m v rs) q (otherLines m v rs) (otherLines m′ w (cutParts m v rs)) (otherLines m w rs) lines-agree in
+      let g = count-match m′ m q (otherLines m′ w (cutParts m v rs)) (otherLines m w rs) lines-match in
       record {
         long = z .long;
         start = λ j h. x .start j h ∙ z .start j h;
         frames = z .frames;
-        values = λ k h. z .values k h ∙ agree-spelled m′ m k (countLines (cutParts m v rs) (otherLines m v rs)) (countLines q (otherLines m′ w (cutParts m v rs))) (countLines q (otherLines m w rs)) g (x .values k h);
+        values = λ k h. z .values k h ∙ match-spelled m′ m k (countLines q (otherLines m′ w (cutParts m v rs))) (countLines q (otherLines m w rs)) g (λ a. x .values k h ∙ ap (spelling m k) (apart-kept k (countLines (cutParts m v rs) (otherLines m v rs)) a));
       }
 
 records-back : {b h : List ℕ} {ps : List (List ℕ)} → b ≡ bytesOf h ps → Built h ps → (t : Meets b) → recordsAt b (t .list) ≡ ps

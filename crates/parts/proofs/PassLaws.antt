@@ -1,7 +1,7 @@
 -- THE LAWS OF A JOIN (02, request Seven), of the bytes a and b and of c, the join of the two: it is a product; its MDRs, variable records, global records
 -- and SPHR are those of the two, once each, in their order; whichever two of three are joined first, the bytes are the same. From the laws of parts.
 -- Assumes nothing.
-use Prim.Native.Nat.{ℕ, _<_}
+use Prim.Native.Nat.{ℕ, _+_, _≤_, _<_}
 use native.Mathlib.Omega.{arith}
 use mathlib.Core.Path.{_≡_, refl, sym, ap, subst, _∙_}
 use mathlib.Core.Bool.{Bool, true, false, _&&_}
@@ -9,23 +9,24 @@ use mathlib.Core.List.{List, [], _∷_, _++_, append-nil, List·Memᴰ as In}
 use lib.ListN.{length, getD}
 use Rattle.demands.specs.Product.{Meets}
 use Rattle.demands.proofs.Accepted.{one-list}
-use Rattle.parts.specs.Parts.{bytesOf, Built, mainOf, recordsAt}
+use Rattle.parts.specs.Parts.{bytesOf, Fits, Built, mainOf, recordsAt}
 use Rattle.parts.specs.Only.{only, isOf, isSphr, isGlobal, isVariable, isMdr}
 use Rattle.parts.specs.Pointers.{firsts, pointers, base, AreFirsts}
 use Rattle.meter.specs.Time.{timeAt}
 use Rattle.parts.specs.Cut.{Window, within, isChosen, cutParts}
 use Rattle.parts.specs.Join.{together, joinParts}
-use Rattle.parts.specs.JoinHeader.{added, endedAs, joinValues, SumsFit}
-use Rattle.parts.specs.Pass.{Alike, Joinable, IsJoin}
-use Rattle.parts.specs.Rewritten.{valueOf, number, spelling, Rewritten}
+use Rattle.parts.specs.JoinHeader.{endedAs, joinLines, Sum, Carried}
+use Rattle.parts.specs.Pass.{Joinable, IsJoin}
+use Rattle.parts.specs.Rewritten.{valueOf, spelling, countLines}
 use Rattle.parts.proofs.Built.{built-meets, meets-built}
 use Rattle.parts.proofs.OnlyLaws.{only-append, only-all, only-none, only-only}
 use Rattle.parts.proofs.Sections.{only-same-in}
 use Rattle.parts.proofs.FirstsLaws.{firsts-are}
 use Rattle.parts.proofs.CutLaws.{cut-mdrs}
-use Rattle.parts.proofs.JoinLaws.{join-mdrs, join-variables, join-globals, join-sphr}
+use Rattle.parts.proofs.JoinLaws.{join-mdrs, join-variables, join-globals, join-sphr, join-pointers}
 use Rattle.parts.proofs.JoinHeaderLaws.{join-is-built}
-use Rattle.parts.proofs.JoinThree.{join-three}
+use Rattle.parts.proofs.JoinLines.{join-sums, Apart, apart-kept}
+use Rattle.parts.proofs.PassOfLaws.{one-pass, tells-one, join-pass, join-tells}
 use Rattle.parts.proofs.Unique.{one-rewritten, main-back, parts-back}
 
 -- ---- ONE JOIN
@@ -43,6 +44,41 @@ chosen-mdrs w rs = sym (only-only (isChosen w) isMdr rs ∙ only-same (λ (r : L
 
     only-same : (f g : List ℕ → Bool) (rs : List (List ℕ)) → ((r : List ℕ) → f r ≡ g r) → only f rs ≡ only g rs
     only-same f g rs h = only-same-in f g rs (λ r _. h r)
+
+-- a line that a join does not name is none of its table's
+pub carried : (k : ℕ) → Carried k → Apart k (countLines [] (joinLines [] []))
+carried k u =
+    let f : (n : ℕ) → 55 ≤ n → n ≤ 70 → k ≡ n → ⊥ = λ n l h e. u .counts (omega arith) (omega arith) in (
+      u .size,
+      (
+        f 55 (omega arith) (omega arith),
+        (
+          f 56 (omega arith) (omega arith),
+          (
+            f 57 (omega arith) (omega arith),
+            (
+              f 58 (omega arith) (omega arith),
+              (
+                f 59 (omega arith) (omega arith),
+                (
+                  f 60 (omega arith) (omega arith),
+                  (
+                    f 61 (omega arith) (omega arith),
+                    (
+                      f 62 (omega arith) (omega arith),
+                      (
+                        f 63 (omega arith) (omega arith),
+                        (u .name, (u .end, (f 64 (omega arith) (omega arith), (f 65 (omega arith) (omega arith), (f 66 (omega arith) (omega arith), (f 67 (omega arith) (omega arith), (f 68 (omega arith) (omega arith), (f 69 (omega arith) (omega arith), (f 70 (omega arith) (omega arith), tt))))))))),
+                      ),
+                    ),
+                  ),
+                ),
+              ),
+            ),
+          ),
+        ),
+      ),
+    )
 
 -- ---- OF TWO PRODUCTS, by their parts
 module _ {m n c : List ℕ} {rs ss : List (List ℕ)} (b : Built m rs) (d : Built n ss) (h : Joinable m n rs ss) (j : IsJoin m n rs ss c) where
@@ -89,18 +125,34 @@ module _ {m n c : List ℕ} {rs ss : List (List ℕ)} (b : Built m rs) (d : Buil
         ∙ ap (λ (l : List (List ℕ)). only isMdr rs ++ l) (only-none (isChosen w) (only isMdr ss) g)
         ∙ append-nil (only isMdr rs)
 
-  -- "the end time and the name's end time come from the second", "Counts and durations add, `x` absorbing"
+    -- "IPRs as in request Three": the pointers are those of the firsts of the records that are pointed to, and these are what `AreFirsts` says
+    pub pass-pointers : only (isOf 3) (recordsAt c (t .list)) ≡ pointers m (base (only isSphr rs) (together rs ss)) (firsts 0 (together rs ss))
+    pass-pointers = ap (only (isOf 3)) (pass-records t) ∙ join-pointers m rs ss
+
+  pub pass-firsts : AreFirsts 0 (together rs ss) (firsts 0 (together rs ss))
+  pass-firsts = firsts-are 0 (together rs ss)
+
+  -- "size and totals are recomputed": the main header has those of the records that are written
+  pub pass-fits : Fits (mainOf c) (joinParts m rs ss)
+  pass-fits = subst (λ (z : List ℕ). Fits z (joinParts m rs ss)) (sym pass-main) (pass-built .fits)
+
+  -- "the end time and the name's end time come from the second"
   pub pass-end : valueOf (mainOf c) 11 ≡ valueOf n 11
   pass-end = ap (λ (z : List ℕ). valueOf z 11) pass-main ∙ j .lines .values 11 (omega arith)
 
   pub pass-name : valueOf (mainOf c) 0 ≡ endedAs (valueOf m 0) (valueOf n 0)
   pass-name = ap (λ (z : List ℕ). valueOf z 0) pass-main ∙ j .lines .values 0 (omega arith)
 
+  -- "Counts and durations add, `x` absorbing"
+  pub pass-counts : (k : ℕ) → 64 ≤ k → k ≤ 70 → Sum (mainOf c) m n k
+  pass-counts k lo hi = subst (λ (z : List ℕ). Sum z m n k) (sym pass-main) (join-sums rs ss (j .lines) (h .sums) k lo hi)
+
+  -- "all else from the first": each line that is not named keeps its bytes, and so do the 20 bytes of the main header's own header
+  pub pass-keeps : (k : ℕ) → Carried k → valueOf (mainOf c) k ≡ valueOf m k
+  pass-keeps k u = ap (λ (z : List ℕ). valueOf z k) pass-main ∙ j .lines .values k (u .within) ∙ ap (spelling m k) (apart-kept k (countLines (joinParts m rs ss) (joinLines m n)) (carried k u))
+
   pub pass-head : (i : ℕ) → i < 20 → getD (mainOf c) i 0 ≡ getD m i 0
   pass-head i l = ap (λ (z : List ℕ). getD z i 0) pass-main ∙ sym (j .lines .start i l)
-
-  pub pass-firsts : AreFirsts 0 (together rs ss) (firsts 0 (together rs ss))
-  pass-firsts = firsts-are 0 (together rs ss)
 
 -- ---- THREE PRODUCTS: "Where both ways of joining three products are accepted, the bytes are the same"
 pub pass-three :
@@ -125,4 +177,6 @@ pass-three {a} {b} {c} {ab} {bc} {l} {r} t u v x y h j k i p q =
     let rb = pass-records B C k i y in
     let pl : IsJoin (j .header) o (joinParts m rs ss) us l = subst (λ (z : List (List ℕ)). IsJoin (j .header) o z us l) ra (subst (λ (z : List ℕ). IsJoin z o (recordsAt ab (x .list)) us l) ma p) in
     let pr : IsJoin m (i .header) rs (joinParts n ss us) r = subst (λ (z : List (List ℕ)). IsJoin m (i .header) rs z r) rb (subst (λ (z : List ℕ). IsJoin m z rs (recordsAt bc (y .list)) r) mb q) in
-    pl .whole ∙ join-three A B C (h .sums) (k .sums) (j .lines) (i .lines) (pl .lines) (pr .lines) ∙ sym (pr .whole)
+    let tl = join-tells (tells-one A) (tells-one B) j (h .sums) in
+    let tr = join-tells (tells-one B) (tells-one C) i (k .sums) in
+    one-pass (join-pass tl (tells-one C) pl) (join-pass (tells-one A) tr pr)

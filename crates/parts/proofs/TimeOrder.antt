@@ -14,15 +14,16 @@ use Rattle.meter.specs.declared.time.Time.{Time}
 use Rattle.meter.specs.declared.time.Time.the-variants as T
 use Rattle.meter.specs.declared.time.Order.{Order}
 use Rattle.meter.specs.declared.time.Order.the-variants as O
+use Rattle.record.specs.Times.{isAfter}
 use Rattle.record.proofs.FieldLaws.{both}
 use Rattle.parts.specs.Cut.{isUpTo, Window, within, Inside}
 
 -- a day and millisecond that is not after another
-record NotAfter (d m e n : ℕ) : Type 0 where
-  first : isMilli d m ≡ true
-  second : isMilli e n ≡ true
-  days : d ≤ e
-  millis : d ≡ e → m ≤ n
+pub record NotAfter (d m e n : ℕ) : Type 0 where
+  pub first : isMilli d m ≡ true
+  pub second : isMilli e n ≡ true
+  pub days : d ≤ e
+  pub millis : d ≡ e → m ≤ n
 
 order-low : (d m e n : ℕ) → d < e → orderOf d m e n ≡ O.Before
 order-low d m e n h = rw (lt-ltb d e h)
@@ -50,7 +51,7 @@ both-right d m e n u = go (isMilli d m) (isMilli e n) u
     go true false u = absurd (true≢false (sym u))
     go false y u = absurd (true≢false (sym u))
 
-not-after : (d m e n : ℕ) → isUpTo (compared (T.At d m) (T.At e n)) ≡ true → NotAfter d m e n
+pub not-after : (d m e n : ℕ) → isUpTo (compared (T.At d m) (T.At e n)) ≡ true → NotAfter d m e n
 not-after d m e n u =
     let r = both-right d m e n u in
     record { first = r .0; second = r .1; days = day (decLt e d) (r .2); millis = λ z. milli z (decLt n m) (r .2) }
@@ -63,7 +64,7 @@ not-after d m e n u =
     milli z (yes h) o = absurd (never (orderOf d m e n) (ap (λ (x : ℕ). orderOf d m x n) (sym z) ∙ order-after d m n h) o)
     milli z (no h) o = omega (arith, h)
 
-up-to : (d m e n : ℕ) → NotAfter d m e n → isUpTo (compared (T.At d m) (T.At e n)) ≡ true
+pub up-to : (d m e n : ℕ) → NotAfter d m e n → isUpTo (compared (T.At d m) (T.At e n)) ≡ true
 up-to d m e n k = rw (k .first, k .second) (go (decLt d e) (decLt m n))
   where
     go : Dec (d < e) → Dec (m < n) → isUpTo (answer (orderOf d m e n)) ≡ true
@@ -93,3 +94,35 @@ within-inside w v t i e =
     let x = up-to-on (v .from) (w .from) t (i .from) (b .0) in
     let y = up-to-on t (w .to) (v .to) (b .1) (i .to) in
     rw (x, y)
+
+-- ---- ONE OR THE OTHER
+pub up-to-self : (d m : ℕ) → isMilli d m ≡ true → isUpTo (compared (T.At d m) (T.At d m)) ≡ true
+up-to-self d m v = up-to d m d m record { first = v; second = v; days = omega arith; millis = λ z. omega arith }
+
+-- a time that is not after another, where both are right, is up to it; and one that is, has the other up to it
+module _ (d m e n : ℕ) (v : isMilli d m ≡ true) (w : isMilli e n ≡ true) where
+  pub up-to-either : (isUpTo (compared (T.At d m) (T.At e n)) ≡ true) ⊎ (isUpTo (compared (T.At e n) (T.At d m)) ≡ true)
+  up-to-either = go (decLt d e) (decLt e d) (decLt m n)
+    where
+      go : Dec (d < e) → Dec (e < d) → Dec (m < n) → (isUpTo (compared (T.At d m) (T.At e n)) ≡ true) ⊎ (isUpTo (compared (T.At e n) (T.At d m)) ≡ true)
+      go (yes h) _ _ = inl (up-to d m e n record { first = v; second = w; days = omega arith; millis = λ z. omega arith })
+      go (no h) (yes l) _ = inr (up-to e n d m record { first = w; second = v; days = omega arith; millis = λ z. omega arith })
+      go (no h) (no l) (yes k) = inl (up-to d m e n record { first = v; second = w; days = omega (arith, l); millis = λ z. omega arith })
+      go (no h) (no l) (no k) = inr (up-to e n d m record { first = w; second = v; days = omega (arith, h); millis = λ z. omega (arith, k) })
+
+after-not : (o : Said Order) → isUpTo o ≡ true → isAfter o ≡ false
+after-not (answer O.Before) e = refl
+after-not (answer O.Same) e = refl
+after-not (answer O.After) e = absurd (true≢false (sym e))
+after-not (refusal n p) e = absurd (true≢false (sym e))
+
+not-after-up : (o : Order) → isAfter (answer o) ≡ false → isUpTo (answer o) ≡ true
+not-after-up O.Before e = refl
+not-after-up O.Same e = refl
+not-after-up O.After e = absurd (true≢false e)
+
+pub up-to-not : (d m e n : ℕ) → isMilli d m ≡ true → isMilli e n ≡ true → isAfter (compared (T.At d m) (T.At e n)) ≡ false → isUpTo (compared (T.At d m) (T.At e n)) ≡ true
+up-to-not d m e n v w a = rw (v, w) (not-after-up (orderOf d m e n) (rw (v, w) at a))
+
+pub up-to-after : (d m e n : ℕ) → isMilli d m ≡ true → isMilli e n ≡ true → isAfter (compared (T.At d m) (T.At e n)) ≡ true → isUpTo (compared (T.At e n) (T.At d m)) ≡ true
+up-to-after d m e n v w a = ⊎-elim (λ u. absurd (true≢false (sym a ∙ after-not (compared (T.At d m) (T.At e n)) u))) (λ u. u) (up-to-either d m e n v w)

@@ -5,11 +5,12 @@
 use Prim.Native.Nat.{ℕ, _<_}
 use mathlib.Core.Path.{_≡_}
 use mathlib.Core.List.{List}
+use Rattle.meter.specs.declared.time.Time.{Time}
 use Rattle.demands.specs.Product.{Meets}
 use Rattle.parts.specs.Parts.{bytesOf, mainOf, recordsAt}
 use Rattle.parts.specs.Cut.{Window, cutParts}
-use Rattle.parts.specs.Rewritten.{Rewritten}
-use Rattle.parts.specs.CutHeader.{cutValues}
+use Rattle.parts.specs.Rewritten.{valueOf, Rewritten}
+use Rattle.parts.specs.CutHeader.{EarliestStart, LatestStop, toSecond, stamp, renamed, cutValues}
 
 -- the records after the main header of the cut of a product a
 abbrev pub cutRecords : (a : List ℕ) → Window → Meets a → List (List ℕ)
@@ -29,3 +30,14 @@ pub record Unnamed (k : ℕ) : Type 0 where
   pub start : k ≡ 10 → ⊥
   pub end : k ≡ 11 → ⊥
   pub size : k ≡ 28 → ⊥
+
+-- "The two sensing times, and bytes 16..30 and 32..46 of PRODUCT_NAME, are the earliest start and latest defined stop of the chosen MDRs, cut to whole seconds,
+-- or `x` where there is none": of the cut b of a, whose MDRs are these
+pub record Sensed (a b : List ℕ) (mdrs : List (List ℕ)) : Type 0 where
+  pub start : Time
+  pub stop : Time
+  pub earliest : EarliestStart mdrs start
+  pub latest : LatestStop mdrs stop
+  pub sensing-start : valueOf (mainOf b) 10 ≡ stamp (toSecond start)
+  pub sensing-end : valueOf (mainOf b) 11 ≡ stamp (toSecond stop)
+  pub name : valueOf (mainOf b) 0 ≡ renamed (valueOf (mainOf a) 0) (toSecond start) (toSecond stop)

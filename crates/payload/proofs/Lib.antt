@@ -7,3 +7,4 @@ pub mod Watching
 pub mod Parted
 pub mod Cuts
 pub mod CutAnswers
+pub mod Reports

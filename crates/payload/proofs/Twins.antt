@@ -67,6 +67,9 @@ module _ {a b : List ℕ} (t : Twins a b) where
   pub same-header : (i : ℕ) → In i (0 ∷ t .one .list) → headerAt a i ≡ headerAt b i
   same-header i m = repaid-headers (with-main (t .repaid)) i m
 
+  pub header-byte : (i : ℕ) → In i (0 ∷ t .one .list) → (j : ℕ) → j < 20 → getD a (i + j) 0 ≡ getD b (i + j) 0
+  header-byte = with-main (t .repaid) .headers
+
   pub alike : (i : ℕ) → In i (0 ∷ t .one .list) → Alike a b i
   alike i m = alike-of i (same-header i m)
 

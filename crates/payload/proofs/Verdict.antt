@@ -16,12 +16,17 @@ use Rattle.judge.specs.Extent.{Short, Complete, Covered, ExtentIs}
 use Rattle.judge.specs.declared.arrival.Extent.{Extent}
 use Rattle.judge.specs.declared.arrival.Extent.the-variants as X
 use Rattle.finish.specs.Rows.{groupAt, subclassAt, isOf, howMany, ordinal, row, rowsAfter, rowsOf}
-use Rattle.finish.specs.Finish.{starts, put, Refuses, faulty, short, no-room, FinishedIs}
+use Rattle.judge.specs.Profile.{isAllowed}
+use Rattle.finish.specs.Profile.{firstAgainst}
+use Rattle.finish.specs.Finish.{starts, put, Refuses, VerdictIs, FinishedIs, RefusesBy, against, RowsBy}
+use Rattle.finish.specs.Finish as E
 use Rattle.finish.specs.declared.Finished.{Finished}
 use Rattle.finish.specs.declared.Finished.the-variants as F
 use Rattle.demands.specs.Product.{Meets}
 use Rattle.demands.proofs.Accept.{complete-covered}
-use Rattle.demands.proofs.Accepted.{covers, unique-finished}
+use Rattle.demands.proofs.Accepted.{covers, unique-finished, unique-verdict, meets-fit}
+use Rattle.level0.specs.Profile.{level0, Level0Is}
+use Rattle.level0.proofs.ByLaws.{unique-by}
 use Rattle.listing.specs.Decimal.{column}
 use Rattle.listing.specs.Listing as S
 use Rattle.listing.specs.Listing.{line, lines, listing, Wrote, Lists, NoList, too-large, ListedIs}
@@ -101,9 +106,9 @@ module _ {a b : List ℕ} (t : Twins a b) where
   not-short s = let k = complete t in ⊎-elim (λ z. omega (arith, k .header)) (λ z. omega (arith, k .come)) s
 
   refuses-over : {room n p : ℕ} → Refuses a room n p → Refuses b room n p
-  refuses-over (faulty g) = absurd (not-clean g (complete t .clean))
-  refuses-over (short c s) = absurd (not-short s)
-  refuses-over (no-room k v l) = no-room (complete (turned t)) (covered-over v) l
+  refuses-over (E.Refuses.faulty g) = absurd (not-clean g (complete t .clean))
+  refuses-over (E.Refuses.short c s) = absurd (not-short s)
+  refuses-over (E.Refuses.no-room k v l) = E.Refuses.no-room (complete (turned t)) (covered-over v) l
 
   finished-over : (rows : List (List ℕ)) (r : Finished) (rows′ : List (List ℕ)) → FinishedIs a rows r rows′ → FinishedIs b rows r rows′
   finished-over rows (F.Accepted c) rows′ f =
@@ -119,6 +124,40 @@ module _ {a b : List ℕ} (t : Twins a b) where
   extent-over X.Part (c, s) = absurd (not-short s)
   extent-over (X.Entire c) (k, v) = (complete (turned t), covered-over v)
   extent-over (X.Refused r) g = absurd (not-clean g (complete t .clean))
+
+  verdict-over : (r : Finished) → VerdictIs a r → VerdictIs b r
+  verdict-over (F.Accepted c) (k, v) = (complete (turned t), covered-over v)
+  verdict-over (F.Refused r) g = absurd (meets-fit (t .one) r g)
+
+  -- a profile reads the class, group, subclass and version
+  same-allowed : (p : List (List ℕ)) (i : ℕ) → In i all → isAllowed p a i ≡ isAllowed p b i
+  same-allowed p i m = let k = alike t i m in rw (k .class, k .group, k .subclass, k .version)
+
+  same-against : (p : List (List ℕ)) (l : List ℕ) → Among l → firstAgainst p a l ≡ firstAgainst p b l
+  same-against p [] v = refl
+  same-against p (i ∷ l) v = rw (same-allowed p i (v i (top refl)), same-against p l (λ j n. v j (pop n)))
+
+  against-over : (p : List (List ℕ)) {c : ℕ} (v : Covered a c) (w : Covered b c) → firstAgainst p a (0 ∷ starts (v .way)) ≡ firstAgainst p b (0 ∷ starts (w .way))
+  against-over p v w = let e = starts-over v w in ap (firstAgainst p a) (e .0) ∙ same-against p all (λ j n. n) ∙ sym (ap (firstAgainst p b) (e .1))
+
+  refuses-by-over : {p : List (List ℕ)} {room n q : ℕ} → RefusesBy p a room n q → RefusesBy p b room n q
+  refuses-by-over (E.RefusesBy.faulty g) = absurd (not-clean g (complete t .clean))
+  refuses-by-over (E.RefusesBy.short c s) = absurd (not-short s)
+  refuses-by-over {p} (against k v e) = let w = covered-over v in against (complete (turned t)) w (sym (against-over p v w) ∙ e)
+  refuses-by-over {p} (E.RefusesBy.no-room k v e l) = let w = covered-over v in E.RefusesBy.no-room (complete (turned t)) w (sym (against-over p v w) ∙ e) l
+
+  by-over : (p rows : List (List ℕ)) (r : Finished) (rows′ : List (List ℕ)) → RowsBy p a rows r rows′ → RowsBy p b rows r rows′
+  by-over p rows (F.Accepted c) rows′ f =
+      let v = f .accepts .filled .covered in
+      let w = covered-over v in
+      record {
+        accepts = record {
+          complete = complete (turned t);
+          filled = record { covered = w; fits = f .accepts .filled .fits; index = f .accepts .filled .index ∙ ap (λ (l : List (List ℕ)). put 0 l rows) (rows-over v w) };
+        };
+        allowed = sym (against-over p v w) ∙ f .allowed;
+      }
+  by-over p rows (F.Refused r) rows′ (f, e) = (refuses-by-over f, e)
 
   no-list-over : {room : List ℕ} {n p : ℕ} → NoList a room n p → NoList b room n p
   no-list-over (too-large h) = too-large (omega (arith, t .repaid .long))
@@ -155,6 +194,20 @@ module _ {a b : List ℕ} (x : Apart a b) where
   pub same-finished :
       (rows : List (List ℕ)) (r s : Finished) (y z : List (List ℕ)) → FinishedIs a rows r y → FinishedIs b rows s z → (r ≡ s) × (y ≡ z)
   same-finished rows r s y z f g = unique-finished b rows r s y z (apart-finished rows r y f) g
+
+  -- the verdict without rows, which is the finished judge since request Fourteen: the same answer
+  pub apart-verdict : (r : Finished) → VerdictIs a r → VerdictIs b r
+  apart-verdict = verdict-over (twins x)
+
+  pub same-verdict : (r s : Finished) → VerdictIs a r → VerdictIs b s → r ≡ s
+  same-verdict r s f g = unique-verdict b r s (apart-verdict r f) g
+
+  -- and by a profile, whichever it is: Level 0 is one (request Nine)
+  pub apart-by : (p rows : List (List ℕ)) (r : Finished) (rows′ : List (List ℕ)) → RowsBy p a rows r rows′ → RowsBy p b rows r rows′
+  apart-by = by-over (twins x)
+
+  pub same-level0 : (rows : List (List ℕ)) (r s : Finished) (y z : List (List ℕ)) → Level0Is a rows r y → Level0Is b rows s z → (r ≡ s) × (y ≡ z)
+  same-level0 rows r s y z f g = unique-by level0 b rows r s y z (apart-by level0 rows r y f) g
 
   pub apart-extent : (r : Extent) → ExtentIs a r → ExtentIs b r
   apart-extent = extent-over (twins x)

@@ -4,27 +4,22 @@
 use Prim.Native.Nat.{ℕ, _+_, _≤_, _<_}
 use native.Mathlib.Omega.{arith}
 use mathlib.Core.Path.{_≡_, refl, sym, ap, subst, _∙_}
-use mathlib.Core.Bool.{true, cond}
+use mathlib.Core.Bool.{cond}
 use mathlib.Core.List.{List, [], _∷_, _++_}
 use lib.Dec.{eqb}
-use lib.ListN.{length, getD}
-use Rattle.tables.specs.Lawful.{Same}
+use lib.ListN.{length}
 use Rattle.tables.proofs.Laws.{begins, longer}
-use Rattle.record.specs.Header.{isClass}
-use Rattle.mphr.specs.Table.{declared, total}
-use Rattle.judge.specs.Table.{Site, first, classAt, Leads, surplus, Judged}
+use Rattle.mphr.specs.Table.{total}
+use Rattle.judge.specs.Table.{Judged}
 use Rattle.judge.specs.declared.arrival.Arrival.{Arrival}
-use Rattle.judge.proofs.Local.{leads-on, declared-on}
-use Rattle.judge.proofs.WayLaws.{leads-le}
 use Rattle.demands.specs.Product.{class, ofClass}
-use Rattle.demands.proofs.Accept.{not-wrong}
 use Rattle.demands.proofs.Accepted.{first-class}
 use Rattle.demands.proofs.Prefix.{unique-arrival}
-use Rattle.watch.specs.Watched.{SixtyFifth, Watched, Few}
+use Rattle.watch.specs.Watched.{Watched, Few}
 use Rattle.watch.specs.Stands.{FedIs, Fresh, Feeds, joined}
 use Rattle.watch.specs.declared.Watch.{Watch}
 use Rattle.watch.proofs.TableLaws.{agrees, agrees-back}
-use Rattle.watch.proofs.Laws.{unique-watched, stands-for-all}
+use Rattle.watch.proofs.Laws.{unique-watched, stands-for-all, few-come}
 use Rattle.payload.specs.Apart.{Apart}
 use Rattle.payload.proofs.Twins.{Twins, turned, twins, twins-of, complete, same-total}
 use Rattle.payload.proofs.Fields.{Come, all-come, judged-over}
@@ -33,18 +28,9 @@ use Rattle.payload.proofs.Fields.{Come, all-come, judged-over}
 pub come-first : (p t : List ℕ) → Come p (p ++ t)
 come-first p t = record { same = begins p t; within = longer p t }
 
-is-three : {c : ℕ} → c ≡ 3 → isClass c ≡ true
-unfolding isClass
-is-three e = rw e refl
-
 -- a product of at most 64 pointers has no 65th, nor has what has come of it
-few-come : {a b p : List ℕ} → Twins a b → total a 3 ≤ 64 → Come p a → Few p
-few-come {a} {p = p} t h f x w s u =
-    let m : 3307 ≤ length p = omega (arith, leads-le w) in
-    let c : classAt a (x .at) ≡ 3 = sym (f .same .byte (x .at) (omega arith)) ∙ s .ipr in
-    let o : total a (classAt a (x .at)) < getD (x .tally) (classAt a (x .at)) 0 + 1 = rw c (omega (arith, s .before)) in
-    not-wrong (complete t) (leads-on (f .same) m w (omega arith))
-    (surplus (omega (arith, s .head, declared-on (f .same) m)) (record { known = is-three c; over = o })) (omega (arith, f .within))
+few-of : {a b p : List ℕ} → Twins a b → total a 3 ≤ 64 → Come p a → Few p
+few-of t h f = few-come (complete t) h (f .same) (f .within)
 
 pointers : {a b : List ℕ} (t : Twins a b) → ofClass a 3 (t .one .list) ≤ 64 → total a 3 ≤ 64
 pointers {a} t h =
@@ -55,8 +41,8 @@ pointers {a} t h =
 watched-over : {a b p q : List ℕ} (t : Twins a b) → ofClass a 3 (t .one .list) ≤ 64 → Come p a → Come q b → length p ≡ length q → (r : Arrival) → Watched p r → Watched q r
 watched-over {p = p} {q = q} t h f g e r w =
     let m = pointers t h in
-    let fp = few-come t m f in
-    let fq = few-come (turned t) (omega (arith, same-total t 3 (omega arith))) g in
+    let fp = few-of t m f in
+    let fq = few-of (turned t) (omega (arith, same-total t 3 (omega arith))) g in
     agrees q r fq (judged-over t f g e r (agrees-back p r fp w))
 
 -- ---- THE LAWS, of the first bytes p of a and q of b, as many

@@ -110,6 +110,9 @@ join-written {a} {b} {room} {exit} k s e (both t u p) = go e p
 join-length : {m n c : List ℕ} {rs ss : List (List ℕ)} → IsJoin m n rs ss c → length c ≡ joinSize m rs ss
 join-length {m} {rs = rs} {ss = ss} j = ap length (j .whole) ∙ length-append (j .header) (joined (joinParts m rs ss)) ∙ omega (arith, j .lines .long, bytes-joined (joinParts m rs ss))
 
+pub join-sized : {a b room exit : List ℕ} {k : ℕ} (w : JoinResult a b room k exit) → k ≡ length (w .text)
+join-sized w = w .long ∙ sym (join-length (w .join))
+
 -- it meets the format, so that the judges accept it
 pub join-product : {a b room exit : List ℕ} {k : ℕ} (w : JoinResult a b room k exit) → Meets (w .text)
 join-product {a} {b} w = pass-product (meets-built a (w .first)) (meets-built b (w .second)) (w .joinable) (w .join)
@@ -126,7 +129,4 @@ join-three-same {a} {b} {c} ab bc left right =
     let bc-can : Joinable (mainOf b) (mainOf c) (recordsAt b (B .list)) (recordsAt c (left .second .list)) = subst (λ (z : List ℕ). Joinable (mainOf b) (mainOf c) (recordsAt b (B .list)) (recordsAt c z)) (one-list (bc .second) (left .second)) (subst (λ (z : List ℕ). Joinable (mainOf b) (mainOf c) (recordsAt b z) (recordsAt c (bc .second .list))) (one-list (bc .first) B) (bc .joinable)) in
     let r-at : IsJoin (mainOf a) (mainOf (bc .text)) (recordsAt a (A .list)) (recordsAt (bc .text) (right .second .list)) (right .text) = subst (λ (z : List ℕ). IsJoin (mainOf a) (mainOf (bc .text)) (recordsAt a z) (recordsAt (bc .text) (right .second .list)) (right .text)) (one-list (right .first) A) (right .join) in
     let same = pass-three A B (left .second) (left .first) (right .second) (ab .joinable) (ab .join) bc-can bc-at (left .join) r-at in
-    (same, sized left ∙ ap length same ∙ sym (sized right))
-  where
-    sized : {a b e x : List ℕ} {k : ℕ} (w : JoinResult a b e k x) → k ≡ length (w .text)
-    sized w = w .long ∙ sym (join-length (w .join))
+    (same, join-sized left ∙ ap length same ∙ sym (join-sized right))

@@ -41,21 +41,21 @@ module _ {a : List ℕ} {w : Window} {room : List ℕ} where
   one-no-window e (unfit r d g) = absurd (clash d e)
   one-no-window e (too-much t d h) = absurd (clash d e)
   one-no-window e (no-room t d h l) = absurd (clash d e)
-  one-no-window e (written t b d h l c) = absurd (clash d e)
+  one-no-window e (written t b d h l c _) = absurd (clash d e)
 
   one-unfit : {s : Written} {y : List ℕ} (r : Refusal) → isWindow w ≡ true → VerdictIs a (F.Refused r) → CutIs a w room s y → (W.Refused r ≡ s) × (room ≡ y)
   one-unfit r e g (no-window d) = absurd (clash e d)
   one-unfit r e g (unfit q d k) = (ap W.Refused (one-refused r q g k), refl)
   one-unfit r e g (too-much t d h) = absurd (meets-fit t r g)
   one-unfit r e g (no-room t d h l) = absurd (meets-fit t r g)
-  one-unfit r e g (written t b d h l c) = absurd (meets-fit t r g)
+  one-unfit r e g (written t b d h l c _) = absurd (meets-fit t r g)
 
   one-too-much : {s : Written} {y : List ℕ} (u : Meets a) → isWindow w ≡ true → (Holdable (cutRecords a w u) → ⊥) → CutIs a w room s y → (refusedAt 28 0 ≡ s) × (room ≡ y)
   one-too-much u e g (no-window d) = absurd (clash e d)
   one-too-much u e g (unfit q d k) = absurd (meets-fit u q k)
   one-too-much u e g (too-much t d h) = (refl, refl)
   one-too-much u e g (no-room t d h l) = absurd (g (held w t u h))
-  one-too-much u e g (written t b d h l c) = absurd (g (held w t u h))
+  one-too-much u e g (written t b d h l c _) = absurd (g (held w t u h))
 
   one-no-room :
       {s : Written} {y : List ℕ} (u : Meets a) → isWindow w ≡ true → Holdable (cutRecords a w u) → length room < cutSize a w u → CutIs a w room s y
@@ -64,7 +64,7 @@ module _ {a : List ℕ} {w : Window} {room : List ℕ} where
   one-no-room u e g n (unfit q d k) = absurd (meets-fit u q k)
   one-no-room u e g n (too-much t d h) = absurd (h (held w u t g))
   one-no-room u e g n (no-room t d h l) = (ap (refusedAt 18) (sized w u t), refl)
-  one-no-room u e g n (written t b d h l c) = absurd (omega (arith, sized w u t))
+  one-no-room u e g n (written t b d h l c _) = absurd (omega (arith, sized w u t))
 
   one-written :
       {s : Written} {y : List ℕ} (u : Meets a) (b : List ℕ) → isWindow w ≡ true → Holdable (cutRecords a w u) → cutSize a w u ≤ length room → IsCut a w b → CutIs a w room s y
@@ -73,7 +73,7 @@ module _ {a : List ℕ} {w : Window} {room : List ℕ} where
   one-written u b e g n c (unfit q d k) = absurd (meets-fit u q k)
   one-written u b e g n c (too-much t d h) = absurd (h (held w u t g))
   one-written u b e g n c (no-room t d h l) = absurd (omega (arith, sized w u t))
-  one-written u b e g n c (written t x d h l k) =
+  one-written u b e g n c (written t x d h l k _) =
       (ap W.Bytes (sized w u t), ap (λ (z : List ℕ). z ++ drop (cutSize a w u) room) (one-cut c k) ∙ ap (λ (i : ℕ). x ++ drop i room) (sized w u t))
 
 pub unique-cut : (a : List ℕ) (w : Window) (room : List ℕ) (r s : Written) (x y : List ℕ) → CutIs a w room r x → CutIs a w room s y → (r ≡ s) × (x ≡ y)
@@ -81,7 +81,7 @@ unique-cut a w room r s x y (no-window e) c = one-no-window e c
 unique-cut a w room r s x y (unfit q e g) c = one-unfit q e g c
 unique-cut a w room r s x y (too-much t e g) c = one-too-much t e g c
 unique-cut a w room r s x y (no-room t e g l) c = one-no-room t e g l c
-unique-cut a w room r s x y (written t b e g l k) c = one-written t b e g l k c
+unique-cut a w room r s x y (written t b e g l k _) c = one-written t b e g l k c
 
 -- ---- A REFUSAL LEAVES THE ROOM AS IT CAME
 pub refusal-keeps : {a : List ℕ} {w : Window} {room exit : List ℕ} (r : Refusal) (s : Written) → s ≡ W.Refused r → CutIs a w room s exit → exit ≡ room
@@ -89,12 +89,13 @@ refusal-keeps r s e (no-window _) = refl
 refusal-keeps r s e (unfit q _ _) = refl
 refusal-keeps r s e (too-much _ _ _) = refl
 refusal-keeps r s e (no-room _ _ _ _) = refl
-refusal-keeps r s e (written t b _ _ _ _) = absurd (let z : _≡_ {A = ℕ} 0 1 = cc in omega arith)
+refusal-keeps r s e (written t b _ _ _ _ _) = absurd (let z : _≡_ {A = ℕ} 0 1 = cc in omega arith)
 
 -- ---- WHAT IS WRITTEN, of n bytes: the cut, and then what the room held; so the laws of TownLaws hold of it
 pub record Result (a : List ℕ) (w : Window) (room : List ℕ) (n : ℕ) (exit : List ℕ) : Type 0 where
   pub text : List ℕ
   pub cut : IsCut a w text
+  pub product : Meets text
   pub holdable : Holdable (cutRecords a w (cut .product))
   pub long : n ≡ cutSize a w (cut .product)
   pub fits : n ≤ length room
@@ -105,11 +106,12 @@ written-is n s e (no-window _) = absurd (let z : _≡_ {A = ℕ} 0 1 = cc in ome
 written-is n s e (unfit q _ _) = absurd (let z : _≡_ {A = ℕ} 0 1 = cc in omega arith)
 written-is n s e (too-much _ _ _) = absurd (let z : _≡_ {A = ℕ} 0 1 = cc in omega arith)
 written-is n s e (no-room _ _ _ _) = absurd (let z : _≡_ {A = ℕ} 0 1 = cc in omega arith)
-written-is {a} {w} {room} n s e (written t b d h l c) =
+written-is {a} {w} {room} n s e (written t b d h l c m) =
     let z : cutSize a w t ≡ n = bytes-of e in
     record {
       text = b;
       cut = c;
+      product = m;
       holdable = held w t (c .product) h;
       long = sym z ∙ sized w t (c .product);
       fits = omega (arith, z);
@@ -131,7 +133,7 @@ narrower-answer {a} {b} {w} {room = room} byte x k i (no-room t e h l) =
     let s = cut-of-cut-records byte x k i t in
     let z : cutSize b w t ≡ cutSize a w (x .product) = ap (λ (ps : List (List ℕ)). 3307 + bytes ps) s in
     subst (λ (n : ℕ). CutIs a w room (refusedAt 18 n) room) (sym z) (no-room (x .product) e (subst Holdable s h) (omega (arith, z)))
-narrower-answer {a} {b} {w} {room = room} byte x k i (written t c e h l y) =
+narrower-answer {a} {b} {w} {room = room} byte x k i (written t c e h l y m) =
     let s = cut-of-cut-records byte x k i t in
     let z : cutSize b w t ≡ cutSize a w (x .product) = ap (λ (ps : List (List ℕ)). 3307 + bytes ps) s in
-    subst (λ (n : ℕ). CutIs a w room (W.Bytes n) (c ++ drop n room)) (sym z) (written (x .product) c e (subst Holdable s h) (omega (arith, z)) (cut-of-cut byte x k i y))
+    subst (λ (n : ℕ). CutIs a w room (W.Bytes n) (c ++ drop n room)) (sym z) (written (x .product) c e (subst Holdable s h) (omega (arith, z)) (cut-of-cut byte x k i y) m)

@@ -15,3 +15,4 @@ pub mod SumLaws
 pub mod StretchLaws
 pub mod JoinPlanLaws
 pub mod JoinLaws
+pub mod TreeLaws

@@ -30,6 +30,7 @@ use Rattle.parts.proofs.Assembled.{assembled-bytes}
 use Rattle.parts.proofs.CutHeaderLaws.{Bytes, parts-byte}
 use Rattle.parts.proofs.Sections.{sections}
 use Rattle.parts.proofs.WalkLaws.{walk-length, walk-first}
+use Rattle.parts.proofs.TownLaws.{town-product}
 use Rattle.rewrite.specs.declared.survey.Sums.{Sums}
 use Rattle.rewrite.specs.Emitting.{pointersFrom, PutsText}
 use Rattle.rewrite.specs.Keeping.{keptText, PutsKept}
@@ -198,8 +199,8 @@ module _ {a : List ℕ} {w : Window} {room : List ℕ} (t : Meets a) (windowed :
   says-unplanned n p (big h) = too-much t windowed h
   says-unplanned n p (long h l) = no-room t windowed h l
 
-  pub says-written : (n : ℕ) (exit : List ℕ) → n ≡ cutSize a w t → Holdable (cutRecords a w t) → n ≤ length room → PutsCut a w room exit → CutIs a w room (W.Bytes n) exit
-  says-written n exit e k h p =
+  pub says-written : Bytes a → (n : ℕ) (exit : List ℕ) → n ≡ cutSize a w t → Holdable (cutRecords a w t) → n ≤ length room → PutsCut a w room exit → CutIs a w room (W.Bytes n) exit
+  says-written byte n exit e k h p =
       let b = bytesOf (p .header) (cutRecords a w t) in
       let s = same-records w (p .product) t in
       let l : length b ≡ cutSize a w t = length-append (p .header) (joined (cutRecords a w t)) ∙ omega (arith, p .lines .long, bytes-joined (cutRecords a w t)) in
@@ -211,7 +212,7 @@ module _ {a : List ℕ} {w : Window} {room : List ℕ} (t : Meets a) (windowed :
       ∙ ap (λ (y : List ℕ). y ++ b ++ drop (0 + length b) room) (take-zero room)
       ∙ ap (λ (i : ℕ). b ++ drop i room) z in
       let c : IsCut a w b = record { product = p .product; header = p .header; lines = p .lines; whole = ap (bytesOf (p .header)) (sym s) } in
-      subst (λ (y : List ℕ). CutIs a w room (W.Bytes n) y) (sym x) (subst (λ (i : ℕ). CutIs a w room (W.Bytes i) (b ++ drop (cutSize a w t) room)) (sym e) (written t b windowed k (omega arith) c))
+      subst (λ (y : List ℕ). CutIs a w room (W.Bytes n) y) (sym x) (subst (λ (i : ℕ). CutIs a w room (W.Bytes i) (b ++ drop (cutSize a w t) room)) (sym e) (written t b windowed k (omega arith) c (town-product byte c (subst Holdable (sym s) k))))
     where
       take-zero : (v : List ℕ) → take 0 v ≡ []
       take-zero [] = refl

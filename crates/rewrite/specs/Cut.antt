@@ -24,12 +24,12 @@ refusedAt n p = W.Refused (record { number = n; place = p })
 abbrev pub cutSize : (a : List ℕ) → Window → Meets a → ℕ
 cutSize a w t = 3307 + bytes (cutRecords a w t)
 
--- of the bytes a, the window w and a room: the answer, and the room at exit
+-- of the bytes a, the window w and a room: the answer, and the room at exit; "The result is accepted": it meets the format
 pub data CutIs (a : List ℕ) (w : Window) (room : List ℕ) : Written → List ℕ → Type 0 where
   no-window : isWindow w ≡ false → CutIs a w room (refusedAt 25 0) room
   unfit : (r : Refusal) → isWindow w ≡ true → VerdictIs a (F.Refused r) → CutIs a w room (W.Refused r) room
   too-much : (t : Meets a) → isWindow w ≡ true → (Holdable (cutRecords a w t) → ⊥) → CutIs a w room (refusedAt 28 0) room
   no-room : (t : Meets a) → isWindow w ≡ true → Holdable (cutRecords a w t) → length room < cutSize a w t → CutIs a w room (refusedAt 18 (cutSize a w t)) room
   written :
-      (t : Meets a) (b : List ℕ) → isWindow w ≡ true → Holdable (cutRecords a w t) → cutSize a w t ≤ length room → IsCut a w b
+      (t : Meets a) (b : List ℕ) → isWindow w ≡ true → Holdable (cutRecords a w t) → cutSize a w t ≤ length room → IsCut a w b → Meets b
       → CutIs a w room (W.Bytes (cutSize a w t)) (b ++ drop (cutSize a w t) room)

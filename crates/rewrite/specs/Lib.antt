@@ -11,3 +11,4 @@ pub mod Assembling
 pub mod Planning
 pub mod Join
 pub mod Joining
+pub mod Tree

@@ -28,7 +28,7 @@ ghost use Rattle.record.specs.Header.{isClass};
 ghost use Rattle.record.specs.Follow.{Ruled};
 ghost use Rattle.judge.specs.Turning.{refusedAt, FewerIs};
 ghost use Rattle.judge.specs.declared.arrival.Arrival.the-variants.{Waiting};
-ghost use Rattle.watch.specs.Stands.{laid, Fresh, FedIs};
+ghost use Rattle.watch.specs.Stands.{laid, NewIs, FedIs};
 ghost use Rattle.watch.specs.Turning.{TurnIs, RunInIs, OneMoreIs, SaneIs, SaneMark, refusing, waited};
 ghost use Rattle.watch.specs.Turning.{EndIs, WalkIs, AdvanceIs, IdleIs};
 
@@ -722,7 +722,7 @@ pub fn step(w: Watch, part: &[u8]) -> Fed
 }
 
 pub fn new() -> Watch
-    ensures { λ r. ⌜ Fresh r ⌝ }
+    ensures { λ r. ⌜ NewIs r ⌝ }
 {
     let mark = Mark {
         got: 0,

@@ -43,7 +43,7 @@ within c =
     omega (arith, far c)
 
 loop-holds : tie.Need-loop-holds Inv-loop μ-loop
-loop-holds c = starts _ _ (c .new .result) (c .new .ensures)
+loop-holds c = starts _ _ (c .new .result) (c .new .ensures .fresh)
 
 add-number-at : tie.Need-add-number-at Inv-loop μ-loop
 add-number-at c = let p = room c in omega arith

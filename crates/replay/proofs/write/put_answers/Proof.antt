@@ -42,7 +42,7 @@ room c =
     omega (arith, l .before .before .before .before .before .pre .enough, l .loop .inv .2 .kept .long, c .before .before .before .before .before .loop-test .taken)
 
 loop-holds : tie.Need-loop-holds Inv-loop μ-loop
-loop-holds c = (omega arith, none-before _ _ (c .new .result) (c .new .ensures), no-answers _ _ _)
+loop-holds c = (omega arith, none-before _ _ (c .new .result) (c .new .ensures .fresh), no-answers _ _ _)
 
 add-to : tie.Need-add-to Inv-loop μ-loop
 add-to c = let w = within c in omega arith

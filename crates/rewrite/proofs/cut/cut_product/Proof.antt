@@ -104,7 +104,7 @@ returns-2 c =
     let p = a .before .before .before in
     let b = S (F p) in
     let k = planned p _ (a .base .given .1) in
-    says-written (b .pre .product) (b .pre .windowed) _ _ (k .size-is) (k .holdable) (k .fits) (q .put-cut .ensures)
+    says-written (b .pre .product) (b .pre .windowed) (byte (F p)) _ _ (k .size-is) (k .holdable) (k .fits) (q .put-cut .ensures)
 
 pub cut-product-spec : {M : Type 1} → statement M
 cut-product-spec =

@@ -1,0 +1,7 @@
+pub mod Values
+pub mod Spelled
+pub mod Parse
+pub mod Inverse
+pub mod Answers
+pub mod Alike
+pub mod Assembled

@@ -319,6 +319,13 @@ void wl_cut(const uint8_t *bytes, size_t len, uint8_t first_defined, uint16_t fi
  * wl_verdict. Joining three products one after the other gives the same bytes whichever two are joined first, where neither way is refused. */
 void wl_join(const uint8_t *first, size_t first_len, const uint8_t *second, size_t second_len, uint8_t *room, size_t room_len, uint64_t answer[4]);
 
+/* The join of two granules of a pass. As wl_join, but for two of its tests: 26 compares the SPHR and the records of classes 4 and 5 without bytes 8 to
+ * 19, the two times of their headers, which are those of the MDRs of their own product (002, Table 15); and 27 is answered where the last defined stop of
+ * an MDR of the first is more than one millisecond after the first defined start of one of the second, on the line of milliseconds of wl_report_add, on
+ * which a leap second counts. What is written is the same function of the two: the SPHR and these records are the first's as they stand. Where wl_join
+ * writes, this writes the same bytes. */
+void wl_join_pass(const uint8_t *first, size_t first_len, const uint8_t *second, size_t second_len, uint8_t *room, size_t room_len, uint64_t answer[4]);
+
 /* Whether a product is a cut of another: 0, 0, 1, 0 where it is, and 0, 0, 0, the place where it is not. It is one where its MDRs are a run-through of
  * the original's in order, some left out, none changed or repeated; its SPHR and its records of classes 4 to 7 are the original's, byte for byte and in
  * order, none missing; and INSTRUMENT_ID, PRODUCT_TYPE, PROCESSING_LEVEL and SPACECRAFT_ID agree byte for byte. Pointers and the other lines are free.

@@ -180,6 +180,11 @@ pub fn join_into(first: &[u8], second: &[u8], room: &mut [u8]) -> Result<usize, 
     form::written(raw::join(first, second, room), room.len())
 }
 
+/// As `join_into`, of two granules of a pass.
+pub fn join_pass_into(first: &[u8], second: &[u8], room: &mut [u8]) -> Result<usize, Refusal> {
+    form::written(raw::join_pass(first, second, room), room.len())
+}
+
 /// Two products that follow each other as one. It is seldom longer than the two; where it is, they are joined again into the bytes that it needs.
 pub fn join(first: &[u8], second: &[u8]) -> Result<Vec<u8>, Refusal> {
     let mut room = vec![0; first.len() + second.len()];

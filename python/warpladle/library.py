@@ -104,6 +104,7 @@ FUNCTIONS: dict[str, tuple[tuple[Any, ...], int]] = {
     'listing': ((BYTES, ROOM), 4),
     'cut': ((BYTES, *TIME, *TIME, ROOM), 4),
     'join': ((BYTES, BYTES, ROOM), 4),
+    'join_pass': ((BYTES, BYTES, ROOM), 4),
     'check_cut': ((BYTES, BYTES), 4),
     'uth': ((BYTES, BLOCKS, VALUES), 4),
     'report_add': ((STATE, BYTES), 4),

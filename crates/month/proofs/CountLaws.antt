@@ -22,13 +22,14 @@ use Rattle.finish.proofs.AheadLaws.{all-ahead}
 use Rattle.demands.specs.Product.{class, size, ofClass, Meets}
 use Rattle.demands.proofs.Accept.{complete-covered}
 use Rattle.demands.proofs.Accepted.{first-class, meets-complete, covers}
-use Rattle.month.specs.Moment.{gapBetween, overlapBetween, undefinedBetween}
+use Rattle.moment.specs.Moment.{gapBetween, overlapBetween, undefinedBetween}
 use Rattle.month.specs.Report.{sumOf, recordsIn, bytesIn, mdrs, overPairs, stopToStart, gaps, overlaps, undefinedPairs, forClasses, totals, contribution}
-use Rattle.month.specs.Counting.{BetweenIs, held, withLeft, PairSums, mdrHere, Paired, PairedOn}
-use Rattle.month.specs.declared.moment.Between.{Between}
+use Rattle.moment.specs.Pairing.{BetweenIs}
+use Rattle.month.specs.Counting.{held, withLeft, PairSums, mdrHere, Paired, PairedOn}
+use Rattle.moment.specs.declared.Between.{Between}
 use Rattle.month.specs.declared.count.Pairs.{Pairs}
 use Rattle.month.proofs.PlusLaws.{none-at}
-use Rattle.month.proofs.MomentLaws.{Low, low-at, gap-most, overlap-most, undefined-most}
+use Rattle.moment.proofs.MomentLaws.{Low, low-at, gap-most, overlap-most, undefined-most}
 
 -- ---- THE PAIRS
 -- one sum, whichever it is: of the n that it has come to, with the MDR at byte i, and of what that adds

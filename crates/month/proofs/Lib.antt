@@ -1,5 +1,4 @@
 pub mod PlusLaws
-pub mod MomentLaws
 pub mod CountLaws
 pub mod JoinLaws
 pub mod ReportLaws

@@ -4,24 +4,12 @@ use Prim.Native.Nat.{ℕ, _+_, _≤_, _<_}
 use mathlib.Core.Path.{_≡_}
 use mathlib.Core.Bool.{Bool, true, false, cond}
 use mathlib.Core.List.{List, _∷_}
-use lib.Dec.{eqb, ltb}
+use lib.Dec.{eqb}
 use lib.ListN.{length}
-use Rattle.meter.specs.declared.time.Time.{Time}
-use Rattle.month.specs.Moment.{gapBetween, overlapBetween, undefinedBetween}
+use Rattle.moment.specs.Moment.{gapBetween, overlapBetween, undefinedBetween}
 use Rattle.month.specs.Report.{overPairs, stopToStart, plus, Within, Contributes}
-use Rattle.month.specs.declared.moment.Between.{Between}
 use Rattle.month.specs.declared.count.Pairs.{Pairs}
 use Rattle.month.specs.declared.report.Added.the-variants as A
-
--- what the extra second of day k adds before day d begins
-unfoldable pub extraOf : ℕ → ℕ → ℕ
-extraOf k d = cond (ltb k d) 1000 0
-
--- one stop and the next start
-pub record BetweenIs (t u : Time) (r : Between) : Type 0 where
-  pub gap : r .gap ≡ gapBetween t u
-  pub overlap : r .overlap ≡ overlapBetween t u
-  pub undefined : r .undefined ≡ undefinedBetween t u
 
 -- ---- the pairs: with the MDRs at the bytes xs, after the last, which stands at byte i
 abbrev pub held : ℕ → List ℕ → List ℕ

@@ -1,3 +1,2 @@
-pub mod Moment
 pub mod Report
 pub mod Counting

@@ -16,7 +16,7 @@ use Rattle.meter.specs.declared.time.Time.{Time}
 use Rattle.finish.specs.Finish.{VerdictIs}
 use Rattle.finish.specs.declared.Finished.the-variants as F
 use Rattle.demands.specs.Product.{class, size, Meets}
-use Rattle.month.specs.Moment.{gapBetween, overlapBetween, undefinedBetween}
+use Rattle.moment.specs.Moment.{gapBetween, overlapBetween, undefinedBetween}
 use Rattle.month.specs.declared.report.Added.{Added}
 use Rattle.month.specs.declared.report.Added.the-variants as A
 use Rattle.month.specs.declared.report.Merged.{Merged}

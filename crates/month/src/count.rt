@@ -2,7 +2,7 @@
 use crate::bits::bits_at;
 use crate::bits::place;
 use crate::bits::size_in;
-use crate::moment::time_between;
+use moment::time_between;
 ghost use mathlib.Core.Path.{_≡_};
 ghost use Prim.Native.Nat.{_+_, _<_};
 ghost use lib.ListN.{getD, set};

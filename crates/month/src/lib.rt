@@ -3,5 +3,4 @@ pub use calendar::Refusal;
 
 mod bits;
 mod count;
-mod moment;
 pub mod report;

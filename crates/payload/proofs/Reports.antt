@@ -11,7 +11,7 @@ use Rattle.meter.specs.declared.time.Time.{Time}
 use Rattle.meter.proofs.IntegerLaws.{beAt-same}
 use Rattle.demands.specs.Product.{class, size}
 use Rattle.demands.proofs.Accepted.{meets-fit, one-list}
-use Rattle.month.specs.Moment.{gapBetween, overlapBetween, undefinedBetween}
+use Rattle.moment.specs.Moment.{gapBetween, overlapBetween, undefinedBetween}
 use Rattle.month.specs.Report.{sumOf, recordsIn, bytesIn, mdrs, overPairs, stopToStart, contribution, Contributes, accepted, unfit, AddIs}
 use Rattle.month.specs.declared.report.Added.{Added}
 use Rattle.month.proofs.ReportLaws.{unique-add}

@@ -3,6 +3,7 @@
 use Prim.Native.Nat.{ℕ, _+_, _≤_, _<_}
 use native.Mathlib.Omega.{arith}
 use mathlib.Core.Path.{_≡_, refl, sym, ap, subst, _∙_}
+use mathlib.Core.Bool.{Bool}
 use mathlib.Core.List.{List, _++_}
 use lib.ListN.{length, drop, length-append}
 use Rattle.calendar.specs.declared.Refusal.{Refusal}
@@ -11,15 +12,17 @@ use Rattle.meter.specs.declared.integer.Written.the-variants as W
 use Rattle.demands.specs.Product.{Meets}
 use Rattle.demands.proofs.Accepted.{one-list, meets-fit, one-refused}
 use Rattle.parts.specs.Parts.{joined, mainOf, recordsAt}
-use Rattle.parts.specs.Join.{joinParts}
+use Rattle.parts.specs.Only.{only, isSphr, isGlobal, isVariable, isMdr}
+use Rattle.parts.specs.Join.{joinParts, identical, granules}
 use Rattle.parts.specs.Pass.{Alike, InTime, Joinable, joinSize, IsJoin}
 use Rattle.parts.proofs.Built.{bytes-joined, meets-built}
-use Rattle.parts.proofs.PassLaws.{one-join, pass-product, pass-three}
+use Rattle.parts.proofs.PassLaws.{one-join, pass-product, pass-mdrs, pass-variables, pass-globals, pass-sphr, pass-three}
+use Rattle.parts.proofs.GranuleLaws.{alike-granules, in-time-granules}
 use Rattle.rewrite.specs.Cut.{refusedAt}
 use Rattle.rewrite.specs.Join.{PartsJoin, unlike, out-of-time, too-much, no-room, written, JoinIs, first-unfit, second-unfit, both}
 
 -- ---- NO SECOND ANSWER FITS, of two products
-one-parts : {m n : List ℕ} {rs ss : List (List ℕ)} {room : List ℕ} {r s : Written} {x y : List ℕ} → PartsJoin m n rs ss room r x → PartsJoin m n rs ss room s y → (r ≡ s) × (x ≡ y)
+one-parts : {i : Bool} {m n : List ℕ} {rs ss : List (List ℕ)} {room : List ℕ} {r s : Written} {x y : List ℕ} → PartsJoin i m n rs ss room r x → PartsJoin i m n rs ss room s y → (r ≡ s) × (x ≡ y)
 one-parts (unlike d) (unlike e) = (refl, refl)
 one-parts (unlike d) (out-of-time a t) = absurd (d a)
 one-parts (unlike d) (too-much a t h) = absurd (d a)
@@ -44,16 +47,16 @@ one-parts (written d a t h k i) (unlike e) = absurd (e a)
 one-parts (written d a t h k i) (out-of-time b u) = absurd (u t)
 one-parts (written d a t h k i) (too-much b u g) = absurd (g h)
 one-parts (written d a t h k i) (no-room b u g l) = absurd (omega arith)
-one-parts {m} {n} {rs} {ss} {room} (written d a t h k i) (written c b u g l j) = (refl, ap (λ (z : List ℕ). z ++ drop (joinSize m rs ss) room) (one-join i j))
+one-parts {m = m} {rs = rs} {ss = ss} {room = room} (written d a t h k i) (written c b u g l j) = (refl, ap (λ (z : List ℕ). z ++ drop (joinSize m rs ss) room) (one-join i j))
 
 -- another proof that the two are products has the same parts
-moved : {a b room : List ℕ} {r : Written} {x : List ℕ} (t t′ : Meets a) (u u′ : Meets b) → PartsJoin (mainOf a) (mainOf b) (recordsAt a (t .list)) (recordsAt b (u .list)) room r x → PartsJoin (mainOf a) (mainOf b) (recordsAt a (t′ .list)) (recordsAt b (u′ .list)) room r x
-moved {a} {b} {room} {r} {x} t t′ u u′ p =
-    subst (λ (l : List ℕ). PartsJoin (mainOf a) (mainOf b) (recordsAt a (t′ .list)) (recordsAt b l) room r x) (one-list u u′)
-    (subst (λ (l : List ℕ). PartsJoin (mainOf a) (mainOf b) (recordsAt a l) (recordsAt b (u .list)) room r x) (one-list t t′) p)
+moved : {i : Bool} {a b room : List ℕ} {r : Written} {x : List ℕ} (t t′ : Meets a) (u u′ : Meets b) → PartsJoin i (mainOf a) (mainOf b) (recordsAt a (t .list)) (recordsAt b (u .list)) room r x → PartsJoin i (mainOf a) (mainOf b) (recordsAt a (t′ .list)) (recordsAt b (u′ .list)) room r x
+moved {i} {a} {b} {room} {r} {x} t t′ u u′ p =
+    subst (λ (l : List ℕ). PartsJoin i (mainOf a) (mainOf b) (recordsAt a (t′ .list)) (recordsAt b l) room r x) (one-list u u′)
+    (subst (λ (l : List ℕ). PartsJoin i (mainOf a) (mainOf b) (recordsAt a l) (recordsAt b (u .list)) room r x) (one-list t t′) p)
 
 -- ---- NO SECOND ANSWER FITS
-pub unique-join : (a b room : List ℕ) (r s : Written) (x y : List ℕ) → JoinIs a b room r x → JoinIs a b room s y → (r ≡ s) × (x ≡ y)
+pub unique-join : {i : Bool} (a b room : List ℕ) (r s : Written) (x y : List ℕ) → JoinIs i a b room r x → JoinIs i a b room s y → (r ≡ s) × (x ≡ y)
 unique-join a b room r s x y (first-unfit q g) (first-unfit p h) = (ap W.Refused (one-refused q p g h), refl)
 unique-join a b room r s x y (first-unfit q g) (second-unfit p t h) = absurd (meets-fit t q g)
 unique-join a b room r s x y (first-unfit q g) (both t u p) = absurd (meets-fit t q g)
@@ -65,12 +68,12 @@ unique-join a b room r s x y (both t u p) (second-unfit q v h) = absurd (meets-f
 unique-join a b room r s x y (both t u p) (both v w q) = one-parts (moved t v u w p) q
 
 -- ---- A REFUSAL LEAVES THE ROOM AS IT CAME
-pub join-refusal-keeps : {a b room exit : List ℕ} (r : Refusal) (s : Written) → s ≡ W.Refused r → JoinIs a b room s exit → exit ≡ room
+pub join-refusal-keeps : {i : Bool} {a b room exit : List ℕ} (r : Refusal) (s : Written) → s ≡ W.Refused r → JoinIs i a b room s exit → exit ≡ room
 join-refusal-keeps r s e (first-unfit q _) = refl
 join-refusal-keeps r s e (second-unfit q _ _) = refl
 join-refusal-keeps r s e (both t u p) = go e p
   where
-    go : {m n : List ℕ} {rs ss : List (List ℕ)} {room exit : List ℕ} {s : Written} → s ≡ W.Refused r → PartsJoin m n rs ss room s exit → exit ≡ room
+    go : {i : Bool} {m n : List ℕ} {rs ss : List (List ℕ)} {room exit : List ℕ} {s : Written} → s ≡ W.Refused r → PartsJoin i m n rs ss room s exit → exit ≡ room
     go e (unlike _) = refl
     go e (out-of-time _ _) = refl
     go e (too-much _ _ _) = refl
@@ -78,26 +81,26 @@ join-refusal-keeps r s e (both t u p) = go e p
     go e (written c _ _ _ _ _) = absurd (let z : _≡_ {A = ℕ} 0 1 = cc in omega arith)
 
 -- ---- WHAT IS WRITTEN, of k bytes: the join of the two products, and then what the room held
-pub record JoinResult (a b room : List ℕ) (k : ℕ) (exit : List ℕ) : Type 0 where
+pub record JoinResult (i : Bool) (a b room : List ℕ) (k : ℕ) (exit : List ℕ) : Type 0 where
   pub text : List ℕ
   pub first : Meets a
   pub second : Meets b
-  pub alike : Alike (mainOf a) (mainOf b) (recordsAt a (first .list)) (recordsAt b (second .list))
-  pub in-time : InTime (recordsAt a (first .list)) (recordsAt b (second .list))
+  pub alike : Alike i (mainOf a) (mainOf b) (recordsAt a (first .list)) (recordsAt b (second .list))
+  pub in-time : InTime i (recordsAt a (first .list)) (recordsAt b (second .list))
   pub joinable : Joinable (mainOf a) (mainOf b) (recordsAt a (first .list)) (recordsAt b (second .list))
   pub join : IsJoin (mainOf a) (mainOf b) (recordsAt a (first .list)) (recordsAt b (second .list)) text
   pub long : k ≡ joinSize (mainOf a) (recordsAt a (first .list)) (recordsAt b (second .list))
   pub stands : exit ≡ text ++ drop k room
 
-pub join-written : {a b room exit : List ℕ} (k : ℕ) (s : Written) → s ≡ W.Bytes k → JoinIs a b room s exit → JoinResult a b room k exit
+pub join-written : {i : Bool} {a b room exit : List ℕ} (k : ℕ) (s : Written) → s ≡ W.Bytes k → JoinIs i a b room s exit → JoinResult i a b room k exit
 join-written k s e (first-unfit q _) = absurd (let z : _≡_ {A = ℕ} 0 1 = cc in omega arith)
 join-written k s e (second-unfit q _ _) = absurd (let z : _≡_ {A = ℕ} 0 1 = cc in omega arith)
-join-written {a} {b} {room} {exit} k s e (both t u p) = go e p
+join-written {i} {a} {b} {room} {exit} k s e (both t u p) = go e p
   where
     bytes-of : {i j : ℕ} → W.Bytes i ≡ W.Bytes j → i ≡ j
     bytes-of e = cc
 
-    go : {s : Written} {exit : List ℕ} → s ≡ W.Bytes k → PartsJoin (mainOf a) (mainOf b) (recordsAt a (t .list)) (recordsAt b (u .list)) room s exit → JoinResult a b room k exit
+    go : {s : Written} {exit : List ℕ} → s ≡ W.Bytes k → PartsJoin i (mainOf a) (mainOf b) (recordsAt a (t .list)) (recordsAt b (u .list)) room s exit → JoinResult i a b room k exit
     go e (unlike _) = absurd (let z : _≡_ {A = ℕ} 0 1 = cc in omega arith)
     go e (out-of-time _ _) = absurd (let z : _≡_ {A = ℕ} 0 1 = cc in omega arith)
     go e (too-much _ _ _) = absurd (let z : _≡_ {A = ℕ} 0 1 = cc in omega arith)
@@ -110,19 +113,49 @@ join-written {a} {b} {room} {exit} k s e (both t u p) = go e p
 join-length : {m n c : List ℕ} {rs ss : List (List ℕ)} → IsJoin m n rs ss c → length c ≡ joinSize m rs ss
 join-length {m} {rs = rs} {ss = ss} j = ap length (j .whole) ∙ length-append (j .header) (joined (joinParts m rs ss)) ∙ omega (arith, j .lines .long, bytes-joined (joinParts m rs ss))
 
-pub join-sized : {a b room exit : List ℕ} {k : ℕ} (w : JoinResult a b room k exit) → k ≡ length (w .text)
+pub join-sized : {i : Bool} {a b room exit : List ℕ} {k : ℕ} (w : JoinResult i a b room k exit) → k ≡ length (w .text)
 join-sized w = w .long ∙ sym (join-length (w .join))
 
 -- it meets the format, so that the judges accept it
-pub join-product : {a b room exit : List ℕ} {k : ℕ} (w : JoinResult a b room k exit) → Meets (w .text)
-join-product {a} {b} w = pass-product (meets-built a (w .first)) (meets-built b (w .second)) (w .joinable) (w .join)
+pub join-product : {i : Bool} {a b room exit : List ℕ} {k : ℕ} (w : JoinResult i a b room k exit) → Meets (w .text)
+join-product {a = a} {b = b} w = pass-product (meets-built a (w .first)) (meets-built b (w .second)) (w .joinable) (w .join)
+
+-- its records: every MDR of the two once, in order, and so are the variable records; the SPHR and the global records are the first's as they stand
+module _ {i : Bool} {a b room exit : List ℕ} {k : ℕ} (w : JoinResult i a b room k exit) (t : Meets (w .text)) where
+  pub join-result-mdrs : only isMdr (recordsAt (w .text) (t .list)) ≡ only isMdr (recordsAt a (w .first .list)) ++ only isMdr (recordsAt b (w .second .list))
+  join-result-mdrs = pass-mdrs (meets-built a (w .first)) (meets-built b (w .second)) (w .joinable) (w .join) t
+
+  pub join-result-variables : only isVariable (recordsAt (w .text) (t .list)) ≡ only isVariable (recordsAt a (w .first .list)) ++ only isVariable (recordsAt b (w .second .list))
+  join-result-variables = pass-variables (meets-built a (w .first)) (meets-built b (w .second)) (w .joinable) (w .join) t
+
+  pub join-result-globals : only isGlobal (recordsAt (w .text) (t .list)) ≡ only isGlobal (recordsAt a (w .first .list))
+  join-result-globals = pass-globals (meets-built a (w .first)) (meets-built b (w .second)) (w .joinable) (w .join) t
+
+  pub join-result-sphr : only isSphr (recordsAt (w .text) (t .list)) ≡ only isSphr (recordsAt a (w .first .list))
+  join-result-sphr = pass-sphr (meets-built a (w .first)) (meets-built b (w .second)) (w .joinable) (w .join) t
+
+-- ---- WHEREVER REQUEST SEVEN'S JOIN WRITES, THAT OF A PASS WRITES THE SAME BYTES
+pub join-is-pass : {a b room exit : List ℕ} (k : ℕ) (s : Written) → s ≡ W.Bytes k → JoinIs identical a b room s exit → JoinIs granules a b room s exit
+join-is-pass k s e (first-unfit q _) = absurd (let z : _≡_ {A = ℕ} 0 1 = cc in omega arith)
+join-is-pass k s e (second-unfit q _ _) = absurd (let z : _≡_ {A = ℕ} 0 1 = cc in omega arith)
+join-is-pass {a} {b} {room} k s e (both t u p) = both t u (go e p)
+  where
+    go : {s : Written} {exit : List ℕ} → s ≡ W.Bytes k → PartsJoin identical (mainOf a) (mainOf b) (recordsAt a (t .list)) (recordsAt b (u .list)) room s exit → PartsJoin granules (mainOf a) (mainOf b) (recordsAt a (t .list)) (recordsAt b (u .list)) room s exit
+    go e (unlike _) = absurd (let z : _≡_ {A = ℕ} 0 1 = cc in omega arith)
+    go e (out-of-time _ _) = absurd (let z : _≡_ {A = ℕ} 0 1 = cc in omega arith)
+    go e (too-much _ _ _) = absurd (let z : _≡_ {A = ℕ} 0 1 = cc in omega arith)
+    go e (no-room _ _ _ _) = absurd (let z : _≡_ {A = ℕ} 0 1 = cc in omega arith)
+    go e (written c al ti h l j) = written c (alike-granules al) (in-time-granules (meets-built a t) (meets-built b u) ti) h l j
+
+pub join-pass-same : {a b room x y : List ℕ} {s : Written} (k : ℕ) → JoinIs identical a b room (W.Bytes k) x → JoinIs granules a b room s y → (W.Bytes k ≡ s) × (x ≡ y)
+join-pass-same {a} {b} {room} {x} {y} {s} k p q = unique-join a b room (W.Bytes k) s x y (join-is-pass k (W.Bytes k) refl p) q
 
 -- ---- "Where both ways of joining three products are accepted, the bytes are the same": a with b, and b with c, were written; then that with c, and a with
--- this. What a way is refused for, the other may not be: the law is of the bytes where neither is
+-- this. What a way is refused for, the other may not be: the law is of the bytes where neither is. Whichever of the two joins each of the four is
 pub join-three-same :
-    {a b c e₁ e₂ e₃ e₄ x₁ x₂ x₃ x₄ : List ℕ} {i j k l : ℕ} (ab : JoinResult a b e₁ i x₁) (bc : JoinResult b c e₂ j x₂) (left : JoinResult (ab .text) c e₃ k x₃) (right : JoinResult a (bc .text) e₄ l x₄)
+    {f g u v : Bool} {a b c e₁ e₂ e₃ e₄ x₁ x₂ x₃ x₄ : List ℕ} {i j k l : ℕ} (ab : JoinResult f a b e₁ i x₁) (bc : JoinResult g b c e₂ j x₂) (left : JoinResult u (ab .text) c e₃ k x₃) (right : JoinResult v a (bc .text) e₄ l x₄)
     → (left .text ≡ right .text) × (k ≡ l)
-join-three-same {a} {b} {c} ab bc left right =
+join-three-same {a = a} {b = b} {c = c} ab bc left right =
     let A = ab .first in
     let B = ab .second in
     let bc-at : IsJoin (mainOf b) (mainOf c) (recordsAt b (B .list)) (recordsAt c (left .second .list)) (bc .text) = subst (λ (z : List ℕ). IsJoin (mainOf b) (mainOf c) (recordsAt b (B .list)) (recordsAt c z) (bc .text)) (one-list (bc .second) (left .second)) (subst (λ (z : List ℕ). IsJoin (mainOf b) (mainOf c) (recordsAt b z) (recordsAt c (bc .second .list)) (bc .text)) (one-list (bc .first) B) (bc .join)) in

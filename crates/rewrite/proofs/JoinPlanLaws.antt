@@ -1,4 +1,4 @@
--- THE PLAN OF A JOIN: two products are alike where their sections' bytes are; what is gathered of the four stretches, one after the other, is what goes into
+-- THE PLAN OF A JOIN: two products are alike where their sections' records are; what is gathered of the four stretches, one after the other, is what goes into
 -- the join; and the texts that are put one after the other are the join. Assumes nothing.
 use Prim.Native.Nat.{ℕ, suc, _+_, _-_, _*_, _≤_, _<_}
 use native.Mathlib.Decide.{ℕ-discrete}
@@ -11,9 +11,7 @@ use borrow.Author.Tests.{eq-eqb, ne-eqb}
 use lib.Dec.{eqb}
 use lib.ListN.{length, getD, set, take, drop, replicate, length-append, length-set}
 use lib.Seq.{sets, sets-eq, take-all, length-take-le, getD-set-same, getD-set-other}
-use Rattle.meter.specs.Time.{compared}
 use Rattle.meter.specs.declared.time.Time.{Time}
-use Rattle.record.specs.Times.{isAfter}
 use Rattle.meter.specs.declared.integer.Written.{Written}
 use Rattle.meter.specs.declared.integer.Written.the-variants as W
 use Rattle.demands.specs.Product.{class, Meets}
@@ -22,9 +20,9 @@ use Rattle.parts.specs.Parts.{joined, bytes, bytesOf, Own, count, mainOf, recor
 use Rattle.parts.specs.Only.{only, isSphr, isGlobal, isVariable, isMdr}
 use Rattle.parts.specs.Kinds.{Kinded}
 use Rattle.parts.specs.Pointers.{firsts, pointers, base, assembled}
-use Rattle.parts.specs.Join.{together, joinParts, Like}
+use Rattle.parts.specs.Join.{seen, together, joinParts, Like}
 use Rattle.parts.specs.JoinHeader.{joinLines, joinValues, SumsFit}
-use Rattle.parts.specs.Pass.{FourAgree, Alike, lastDefinedStop, firstDefinedStart, InTime, Joinable, joinSize, IsJoin}
+use Rattle.parts.specs.Pass.{FourAgree, Alike, lastDefinedStop, firstDefinedStart, isLate, InTime, Joinable, joinSize, IsJoin}
 use Rattle.parts.specs.Rewritten.{Rewritten, Anew, valuesOf, countLines, Holdable}
 use Rattle.parts.proofs.Built.{bytes-joined, meets-built}
 use Rattle.parts.proofs.OnlyLaws.{only-in}
@@ -34,18 +32,19 @@ use Rattle.parts.proofs.CutHeaderLaws.{Bytes, parts-byte}
 use Rattle.rewrite.specs.declared.sections.Sections.{Sections}
 use Rattle.rewrite.specs.Table.{Holds}
 use Rattle.rewrite.specs.Emitting.{pointersFrom, PutsText}
-use Rattle.rewrite.specs.Comparing.{Decides, SameIs}
+use Rattle.rewrite.specs.Comparing.{Decides, SeenIs, Seeable}
 use Rattle.parts.proofs.WalkLaws.{walk-first}
 use Rattle.rewrite.specs.Sectioning.{SectionsAre, Sectionable, Sectioned}
 use Rattle.rewrite.specs.Gathering.{Gathered, Stretch, Gatherable, Gathers}
 use Rattle.rewrite.specs.Assembling.{TotalsOf, Collected, sizeOf, Unplanned, big, long, Planned}
 use Rattle.rewrite.specs.Cut.{refusedAt}
 use Rattle.rewrite.specs.Join.{PartsJoin, JoinIs, unlike, out-of-time, too-much, no-room, written, both}
-use Rattle.rewrite.specs.Joining.{PutsRecords, Headers, joinLinesBy, JoinHeaderFor, JoinHeaderIs, Two, Sections2, rsOf, ssOf, LikeIs, AlikeIs, Matched, Gathering2, Gathers2, JoinPlanned, PutsJoin}
-use Rattle.rewrite.proofs.CopyLaws.{sets-append}
+use Rattle.rewrite.specs.Joining.{PutsRecords, Headers, joinLinesBy, JoinHeaderFor, JoinHeaderIs, Two, Sections2, rsOf, ssOf, LikeIs, AlikeIs, Matched, MatchedIs, Gathering2, Gathers2, JoinPlanned, PutsJoin}
+use Rattle.rewrite.proofs.CopyLaws.{sets-append, part-long}
 use Rattle.rewrite.proofs.CompareLaws.{no-it-is, yes-it-is, decides-as}
 use Rattle.rewrite.proofs.AssembleLaws.{joined-append, count-append, count-none, count-all, assembled-text, pointers-text, pointers-long, totals-fit, put-together}
-use Rattle.rewrite.proofs.StretchLaws.{bytes-append, one-text, sections-come, sphr-text, global-text, sphr-own, global-own, aux-stretch, variable-stretch, mdr-stretch, stretch-text}
+use Rattle.rewrite.proofs.UntimedLaws.{seen-bytes}
+use Rattle.rewrite.proofs.StretchLaws.{bytes-append, text-walk, sections-come, sphr-text, global-text, sphr-own, global-own, aux-stretch, variable-stretch, mdr-stretch, stretch-text}
 
 -- ---- another proof that a is a product has the same records
 pub first-same : {a b : List ℕ} (t u : Two a b) → rsOf a b t ≡ rsOf a b u
@@ -54,40 +53,90 @@ first-same {a} t u = ap (recordsAt a) (one-list (t .first) (u .first))
 pub second-same : {a b : List ℕ} (t u : Two a b) → ssOf a b t ≡ ssOf a b u
 second-same {b = b} t u = ap (recordsAt b) (one-list (t .second) (u .second))
 
--- ---- THE SAME SPHR AND GLOBAL RECORDS
+-- ---- THE SAME SPHR AND GLOBAL RECORDS, in what is compared of them
+-- two stretches of as many bytes that are records
+seeable :
+    {a b : List ℕ} (i j n : ℕ) (xs ys : List (List ℕ)) → length a ≤ 2147483647 → i + n ≤ length a → j + n ≤ length b → take n (drop i a) ≡ joined xs → take n (drop j b) ≡ joined ys
+    → ((r : List ℕ) → In r xs → Own r) → ((r : List ℕ) → In r ys → Own r) → Seeable a b i j n
+seeable {a} {b} i j n xs ys l p q u v f g = record {
+  first = p;
+  second = q;
+  texts = record {
+    small = omega (arith, part-long a i n p);
+    long = part-long a i n p ∙ sym (part-long b j n q);
+    first = xs;
+    second = ys;
+    walk-1 = text-walk xs f u;
+    walk-2 = text-walk ys g v;
+  };
+}
+
 module _ {a b : List ℕ} {x y : Sections} (s : Sections2 a b x y) where
-  told : {r : Bool} → Decides (Like (rsOf a b (s .two)) (ssOf a b (s .two))) r → LikeIs a b r
-  told {r} d t = subst (λ (l : List (List ℕ)). Decides (Like l (ssOf a b t)) r) (first-same (s .two) t) (subst (λ (l : List (List ℕ)). Decides (Like (rsOf a b (s .two)) l) r) (second-same (s .two) t) d)
+  told : {i r : Bool} → Decides (Like i (rsOf a b (s .two)) (ssOf a b (s .two))) r → LikeIs i a b r
+  told {i} {r} d t = subst (λ (l : List (List ℕ)). Decides (Like i l (ssOf a b t)) r) (first-same (s .two) t) (subst (λ (l : List (List ℕ)). Decides (Like i (rsOf a b (s .two)) l) r) (second-same (s .two) t) d)
 
-  pub like-front : (x .sphr ≡ y .sphr → ⊥) → LikeIs a b false
-  like-front d = told (no-it-is (λ l. d (s .first .sphr ∙ ap bytes (l .sphr) ∙ sym (s .second .sphr))))
+  front-1 : (r : List ℕ) → In r (only isSphr (rsOf a b (s .two))) → Own r
+  front-1 = sphr-own (s .two .first) (s .first)
 
-  pub like-global : (x .global ≡ y .global → ⊥) → LikeIs a b false
-  like-global d = told (no-it-is (λ l. d (s .first .global ∙ ap bytes (l .global) ∙ sym (s .second .global))))
+  front-2 : (r : List ℕ) → In r (only isSphr (ssOf a b (s .two))) → Own r
+  front-2 = sphr-own (s .two .second) (s .second)
 
-  front-decides : {r : Bool} → x .sphr ≡ y .sphr → SameIs (take (x .sphr) (drop 3307 a)) (take (x .sphr) (drop 3307 b)) r → Decides (only isSphr (rsOf a b (s .two)) ≡ only isSphr (ssOf a b (s .two))) r
-  front-decides e d =
-      let u = sphr-text (s .two .first) (s .first) in
-      let v = ap (λ (n : ℕ). take n (drop 3307 b)) e ∙ sphr-text (s .two .second) (s .second) in
-      decides-as (λ c. one-text _ _ (sphr-own (s .two .first) (s .first)) (sphr-own (s .two .second) (s .second)) (sym u ∙ c ∙ v)) (λ c. u ∙ ap joined c ∙ sym v) d
+  global-1 : (r : List ℕ) → In r (only isGlobal (rsOf a b (s .two))) → Own r
+  global-1 = global-own (s .two .first) (s .first)
 
-  global-decides : {r : Bool} → x .global ≡ y .global → SameIs (take (x .global) (drop (3307 + x .sphr + x .ipr) a)) (take (x .global) (drop (3307 + y .sphr + y .ipr) b)) r → Decides (only isGlobal (rsOf a b (s .two)) ≡ only isGlobal (ssOf a b (s .two))) r
-  global-decides e d =
-      let u = global-text (s .two .first) (s .first) in
-      let v = ap (λ (n : ℕ). take n (drop (3307 + y .sphr + y .ipr) b)) e ∙ global-text (s .two .second) (s .second) in
-      decides-as (λ c. one-text _ _ (global-own (s .two .first) (s .first)) (global-own (s .two .second) (s .second)) (sym u ∙ c ∙ v)) (λ c. u ∙ ap joined c ∙ sym v) d
+  global-2 : (r : List ℕ) → In r (only isGlobal (ssOf a b (s .two))) → Own r
+  global-2 = global-own (s .two .second) (s .second)
 
-  pub like-no : {r : Bool} → x .sphr ≡ y .sphr → SameIs (take (x .sphr) (drop 3307 a)) (take (x .sphr) (drop 3307 b)) r → r ≡ false → LikeIs a b false
-  like-no e d f = told (no-it-is (λ l. front-decides e d .wrong f (l .sphr)))
+  pub like-front : (i : Bool) → (x .sphr ≡ y .sphr → ⊥) → LikeIs i a b false
+  like-front i d = told (no-it-is (λ l. d (s .first .sphr ∙ seen-bytes i (only isSphr (rsOf a b (s .two))) (only isSphr (ssOf a b (s .two))) front-1 front-2 (l .sphr) ∙ sym (s .second .sphr))))
 
-  pub like-last : {q r : Bool} → x .sphr ≡ y .sphr → x .global ≡ y .global → SameIs (take (x .sphr) (drop 3307 a)) (take (x .sphr) (drop 3307 b)) q → q ≡ true → SameIs (take (x .global) (drop (3307 + x .sphr + x .ipr) a)) (take (x .global) (drop (3307 + y .sphr + y .ipr) b)) r → LikeIs a b r
-  like-last e g d t c = told (decides-as (λ w. record { sphr = front-decides e d .right t; global = w }) (λ l. l .global) (global-decides g c))
+  pub like-global : (i : Bool) → (x .global ≡ y .global → ⊥) → LikeIs i a b false
+  like-global i d = told (no-it-is (λ l. d (s .first .global ∙ seen-bytes i (only isGlobal (rsOf a b (s .two))) (only isGlobal (ssOf a b (s .two))) global-1 global-2 (l .global) ∙ sym (s .second .global))))
+
+  low : length a ≤ 2147483647
+  low = let t = s .two .first in omega (arith, t .come, t .header .most)
+
+  front-text : x .sphr ≡ y .sphr → take (x .sphr) (drop 3307 b) ≡ joined (only isSphr (ssOf a b (s .two)))
+  front-text e = ap (λ (n : ℕ). take n (drop 3307 b)) e ∙ sphr-text (s .two .second) (s .second)
+
+  rest-text : x .global ≡ y .global → take (x .global) (drop (3307 + y .sphr + y .ipr) b) ≡ joined (only isGlobal (ssOf a b (s .two)))
+  rest-text e = ap (λ (n : ℕ). take n (drop (3307 + y .sphr + y .ipr) b)) e ∙ global-text (s .two .second) (s .second)
+
+  pub front-seeable : x .sphr ≡ y .sphr → Seeable a b 3307 3307 (x .sphr)
+  front-seeable e =
+      seeable 3307 3307 (x .sphr) (only isSphr (rsOf a b (s .two))) (only isSphr (ssOf a b (s .two))) low
+      (omega (arith, sections-come (s .two .first) (s .first))) (omega (arith, e, sections-come (s .two .second) (s .second)))
+      (sphr-text (s .two .first) (s .first)) (front-text e) front-1 front-2
+
+  pub global-seeable : x .global ≡ y .global → Seeable a b (3307 + x .sphr + x .ipr) (3307 + y .sphr + y .ipr) (x .global)
+  global-seeable e =
+      seeable (3307 + x .sphr + x .ipr) (3307 + y .sphr + y .ipr) (x .global) (only isGlobal (rsOf a b (s .two))) (only isGlobal (ssOf a b (s .two))) low
+      (omega (arith, sections-come (s .two .first) (s .first))) (omega (arith, e, sections-come (s .two .second) (s .second)))
+      (global-text (s .two .first) (s .first)) (rest-text e) global-1 global-2
+
+  front-decides :
+      (i : Bool) {r : Bool} → x .sphr ≡ y .sphr → SeenIs i (take (x .sphr) (drop 3307 a)) (take (x .sphr) (drop 3307 b)) r
+      → Decides (seen i (only isSphr (rsOf a b (s .two))) ≡ seen i (only isSphr (ssOf a b (s .two)))) r
+  front-decides i e d = d (only isSphr (rsOf a b (s .two))) (only isSphr (ssOf a b (s .two))) (text-walk _ front-1 (sphr-text (s .two .first) (s .first))) (text-walk _ front-2 (front-text e))
+
+  global-decides :
+      (i : Bool) {r : Bool} → x .global ≡ y .global → SeenIs i (take (x .global) (drop (3307 + x .sphr + x .ipr) a)) (take (x .global) (drop (3307 + y .sphr + y .ipr) b)) r
+      → Decides (seen i (only isGlobal (rsOf a b (s .two))) ≡ seen i (only isGlobal (ssOf a b (s .two)))) r
+  global-decides i e d = d (only isGlobal (rsOf a b (s .two))) (only isGlobal (ssOf a b (s .two))) (text-walk _ global-1 (global-text (s .two .first) (s .first))) (text-walk _ global-2 (rest-text e))
+
+  pub like-no : (i : Bool) {r : Bool} → x .sphr ≡ y .sphr → SeenIs i (take (x .sphr) (drop 3307 a)) (take (x .sphr) (drop 3307 b)) r → r ≡ false → LikeIs i a b false
+  like-no i e d f = told (no-it-is (λ l. front-decides i e d .wrong f (l .sphr)))
+
+  pub like-last :
+      (i : Bool) {q r : Bool} → x .sphr ≡ y .sphr → x .global ≡ y .global → SeenIs i (take (x .sphr) (drop 3307 a)) (take (x .sphr) (drop 3307 b)) q → q ≡ true
+      → SeenIs i (take (x .global) (drop (3307 + x .sphr + x .ipr) a)) (take (x .global) (drop (3307 + y .sphr + y .ipr) b)) r → LikeIs i a b r
+  like-last i e g d t c = told (decides-as (λ w. record { sphr = front-decides i e d .right t; global = w }) (λ l. l .global) (global-decides i g c))
 
 -- ---- ALIKE
-pub alike-fields : {a b : List ℕ} {r : Bool} → Decides (FourAgree (mainOf a) (mainOf b)) r → r ≡ false → AlikeIs a b false
+pub alike-fields : {a b : List ℕ} {i r : Bool} → Decides (FourAgree (mainOf a) (mainOf b)) r → r ≡ false → AlikeIs i a b false
 alike-fields d e t = no-it-is (λ l. d .wrong e (l .fields))
 
-pub alike-last : {a b : List ℕ} {q r : Bool} → Decides (FourAgree (mainOf a) (mainOf b)) q → q ≡ true → LikeIs a b r → AlikeIs a b r
+pub alike-last : {a b : List ℕ} {i q r : Bool} → Decides (FourAgree (mainOf a) (mainOf b)) q → q ≡ true → LikeIs i a b r → AlikeIs i a b r
 alike-last d e l t = decides-as (λ w. record { fields = d .right e; records = w }) (λ w. w .records) (l t)
 
 -- ---- a product can be walked
@@ -473,40 +522,52 @@ module _ {a b : List ℕ} {x y : Sections} {table totals : List ℕ} {at size : 
       drop-none (z ∷ v) = refl
 
 -- ---- the times of the sections are those of the records
-pub after-is :
-    {a b : List ℕ} {x y : Sections} {r : Bool} (s : Sections2 a b x y) → isAfter (compared (x .stop) (y .start)) ≡ r
-    → isAfter (compared (lastDefinedStop (rsOf a b (s .two))) (firstDefinedStart (ssOf a b (s .two)))) ≡ r
-after-is {a} {b} {x} {y} s e =
-    ap (λ (t : Time). isAfter (compared t (firstDefinedStart (ssOf a b (s .two))))) (sym (s .first .stop)) ∙ ap (λ (t : Time). isAfter (compared (x .stop) t)) (sym (s .second .start)) ∙ e
+pub late-is :
+    {a b : List ℕ} {x y : Sections} (i : Bool) {r : Bool} (s : Sections2 a b x y) → isLate i (x .stop) (y .start) ≡ r
+    → isLate i (lastDefinedStop (rsOf a b (s .two))) (firstDefinedStart (ssOf a b (s .two))) ≡ r
+late-is {a} {b} {x} {y} i s e =
+    ap (λ (t : Time). isLate i t (firstDefinedStart (ssOf a b (s .two)))) (sym (s .first .stop)) ∙ ap (λ (t : Time). isLate i (x .stop) t) (sym (s .second .start)) ∙ e
 
 -- ---- THE ANSWERS
-module _ {a b room : List ℕ} where
-  pub says-unlike : {r : Bool} (t : Two a b) → AlikeIs a b r → r ≡ false → JoinIs a b room (refusedAt 26 0) room
+module _ {a b room : List ℕ} {i : Bool} where
+  pub says-unlike : {r : Bool} (t : Two a b) → AlikeIs i a b r → r ≡ false → JoinIs i a b room (refusedAt 26 0) room
   says-unlike t d e = both (t .first) (t .second) (unlike (d t .wrong e))
 
-  pub says-late : {r : Bool} (t : Two a b) → AlikeIs a b r → r ≡ true → (InTime (rsOf a b t) (ssOf a b t) → ⊥) → JoinIs a b room (refusedAt 27 0) room
+  pub says-late : {r : Bool} (t : Two a b) → AlikeIs i a b r → r ≡ true → (InTime i (rsOf a b t) (ssOf a b t) → ⊥) → JoinIs i a b room (refusedAt 27 0) room
   says-late t d e h = both (t .first) (t .second) (out-of-time (d t .right e) h)
 
   pub says-sums :
-      {r q : Bool} (t : Two a b) → AlikeIs a b r → r ≡ true → InTime (rsOf a b t) (ssOf a b t) → Decides (SumsFit (mainOf a) (mainOf b)) q → q ≡ false
-      → JoinIs a b room (refusedAt 28 0) room
+      {r q : Bool} (t : Two a b) → AlikeIs i a b r → r ≡ true → InTime i (rsOf a b t) (ssOf a b t) → Decides (SumsFit (mainOf a) (mainOf b)) q → q ≡ false
+      → JoinIs i a b room (refusedAt 28 0) room
   says-sums t d e h s c = both (t .first) (t .second) (too-much (d t .right e) h (λ j. s .wrong c (j .sums)))
 
-  module _ {x y : Sections} (m : Matched a b x y) where
-    pub says-big : (n : ℕ) → n ≡ bytes (together (rsOf a b (m .found .two)) (ssOf a b (m .found .two))) → 2147483647 < n → JoinIs a b room (refusedAt 28 0) room
+-- whichever join it is of, where the two are alike and in time
+module _ {a b : List ℕ} {x y : Sections} (m : Matched a b x y) where
+  pub matched-is :
+      {room exit : List ℕ} {r : Written}
+      → ((i : Bool) → Alike i (mainOf a) (mainOf b) (rsOf a b (m .found .two)) (ssOf a b (m .found .two)) → InTime i (rsOf a b (m .found .two)) (ssOf a b (m .found .two)) → JoinIs i a b room r exit)
+      → MatchedIs a b room r exit
+  matched-is f i t al ti =
+      let u = m .found .two in
+      f i
+      (subst (λ (l : List (List ℕ)). Alike i (mainOf a) (mainOf b) l (ssOf a b u)) (first-same t u) (subst (λ (l : List (List ℕ)). Alike i (mainOf a) (mainOf b) (rsOf a b t) l) (second-same t u) al))
+      (subst (λ (l : List (List ℕ)). InTime i l (ssOf a b u)) (first-same t u) (subst (λ (l : List (List ℕ)). InTime i (rsOf a b t) l) (second-same t u) ti))
+
+  module _ {room : List ℕ} {i : Bool} (al : Alike i (mainOf a) (mainOf b) (rsOf a b (m .found .two)) (ssOf a b (m .found .two))) (ti : InTime i (rsOf a b (m .found .two)) (ssOf a b (m .found .two))) where
+    pub says-big : (n : ℕ) → n ≡ bytes (together (rsOf a b (m .found .two)) (ssOf a b (m .found .two))) → 2147483647 < n → JoinIs i a b room (refusedAt 28 0) room
     says-big n e h =
         let t = m .found .two in
-        both (t .first) (t .second) (too-much (m .alike) (m .in-time) (λ j. omega (arith, j .holdable .size, assembled-bytes (mainOf a) (only isSphr (rsOf a b t)) (together (rsOf a b t) (ssOf a b t)))))
+        both (t .first) (t .second) (too-much al ti (λ j. omega (arith, j .holdable .size, assembled-bytes (mainOf a) (only isSphr (rsOf a b t)) (together (rsOf a b t) (ssOf a b t)))))
 
     pub says-unplanned :
         (n p : ℕ) → Unplanned (mainOf a) (only isSphr (rsOf a b (m .found .two))) (together (rsOf a b (m .found .two)) (ssOf a b (m .found .two))) (length room) n p
-        → JoinIs a b room (refusedAt n p) room
-    says-unplanned n p (big h) = let t = m .found .two in both (t .first) (t .second) (too-much (m .alike) (m .in-time) (λ j. h (j .holdable)))
-    says-unplanned n p (long h l) = let t = m .found .two in both (t .first) (t .second) (no-room (m .alike) (m .in-time) record { holdable = h; sums = m .sums } l)
+        → JoinIs i a b room (refusedAt n p) room
+    says-unplanned n p (big h) = let t = m .found .two in both (t .first) (t .second) (too-much al ti (λ j. h (j .holdable)))
+    says-unplanned n p (long h l) = let t = m .found .two in both (t .first) (t .second) (no-room al ti record { holdable = h; sums = m .sums } l)
 
     pub says-written :
         {at size : ℕ} {totals exit : List ℕ} → Planned (mainOf a) (only isSphr (rsOf a b (m .found .two))) (together (rsOf a b (m .found .two)) (ssOf a b (m .found .two))) (length room) at size totals
-        → PutsJoin a b room exit → JoinIs a b room (W.Bytes size) exit
+        → PutsJoin a b room exit → JoinIs i a b room (W.Bytes size) exit
     says-written {at} {size} {totals} {exit} p q =
         let t = q .two in
         let k = m .found .two in
@@ -521,10 +582,10 @@ module _ {a b room : List ℕ} where
         put
         ∙ sets-eq c room 0 (omega (arith, l, p .fits, p .size-is))
         ∙ ap (λ (u : List ℕ). u ++ c ++ drop (0 + length c) room) (take-zero room)
-        ∙ ap (λ (i : ℕ). c ++ drop i room) z in
+        ∙ ap (λ (v : ℕ). c ++ drop v room) z in
         let lines = subst (λ (u : List (List ℕ)). Rewritten (mainOf a) (q .header) (joinValues (mainOf a) (mainOf b) rs u)) (second-same t k) (subst (λ (u : List (List ℕ)). Rewritten (mainOf a) (q .header) (joinValues (mainOf a) (mainOf b) u (ssOf a b t))) (first-same t k) (q .lines)) in
-        let w : PartsJoin (mainOf a) (mainOf b) rs ss room (W.Bytes n) (c ++ drop n room) = written c (m .alike) (m .in-time) record { holdable = p .holdable; sums = m .sums } (omega (arith, p .fits, p .size-is)) record { header = q .header; lines = lines; whole = refl } in
-        both (k .first) (k .second) (subst (λ (u : List ℕ). PartsJoin (mainOf a) (mainOf b) rs ss room (W.Bytes size) u) (sym e) (subst (λ (i : ℕ). PartsJoin (mainOf a) (mainOf b) rs ss room (W.Bytes i) (c ++ drop n room)) (sym (p .size-is)) w))
+        let w : PartsJoin i (mainOf a) (mainOf b) rs ss room (W.Bytes n) (c ++ drop n room) = written c al ti record { holdable = p .holdable; sums = m .sums } (omega (arith, p .fits, p .size-is)) record { header = q .header; lines = lines; whole = refl } in
+        both (k .first) (k .second) (subst (λ (u : List ℕ). PartsJoin i (mainOf a) (mainOf b) rs ss room (W.Bytes size) u) (sym e) (subst (λ (v : ℕ). PartsJoin i (mainOf a) (mainOf b) rs ss room (W.Bytes v) (c ++ drop n room)) (sym (p .size-is)) w))
       where
         take-zero : (v : List ℕ) → take 0 v ≡ []
         take-zero [] = refl
@@ -534,5 +595,5 @@ module _ {a b room : List ℕ} where
 pub kept-at : {fs ks : List (List ℕ)} {table tally : List ℕ} {front k n records : ℕ} → k ≡ n → Collected fs ks table tally front k records → Collected fs ks table tally front n records
 kept-at {fs} {ks} {table} {tally} {front} {records = records} e c = subst (λ (i : ℕ). Collected fs ks table tally front i records) e c
 
-pub answer-at : {a b room exit : List ℕ} {r s : Written} → r ≡ s → JoinIs a b room s exit → JoinIs a b room r exit
-answer-at {a} {b} {room} {exit} e c = subst (λ (x : Written). JoinIs a b room x exit) (sym e) c
+pub answer-at : {i : Bool} {a b room exit : List ℕ} {r s : Written} → r ≡ s → JoinIs i a b room s exit → JoinIs i a b room r exit
+answer-at {i} {a} {b} {room} {exit} e c = subst (λ (x : Written). JoinIs i a b room x exit) (sym e) c

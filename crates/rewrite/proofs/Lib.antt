@@ -13,6 +13,7 @@ pub mod GatherLaws
 pub mod AssembleLaws
 pub mod SumLaws
 pub mod StretchLaws
+pub mod UntimedLaws
 pub mod JoinPlanLaws
 pub mod JoinLaws
 pub mod TreeLaws

@@ -62,6 +62,9 @@ walk-of xs f = record { within = omega arith; left = none (joined xs); own = f }
 pub one-text : (xs ys : List (List ℕ)) → ((r : List ℕ) → In r xs → Own r) → ((r : List ℕ) → In r ys → Own r) → joined xs ≡ joined ys → xs ≡ ys
 one-text xs ys f g e = one-walk xs ys (walk-of xs f) (subst (λ (l : List ℕ). Walk l 0 ys) (sym e) (walk-of ys g))
 
+pub text-walk : {l : List ℕ} (xs : List (List ℕ)) → ((r : List ℕ) → In r xs → Own r) → l ≡ joined xs → Walk l 0 xs
+text-walk xs f e = subst (λ (l : List ℕ). Walk l 0 xs) (sym e) (walk-of xs f)
+
 -- ---- OF A PRODUCT
 mdr-same : (rs : List (List ℕ)) → only (isIn 8 8) rs ≡ only isMdr rs
 mdr-same rs = only-same-in (isIn 8 8) isMdr rs (λ r _. go r (ℕ-discrete (class r 0) 8))

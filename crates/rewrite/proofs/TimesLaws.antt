@@ -5,6 +5,7 @@ use mathlib.Core.Bool.{Bool, true, false}
 use mathlib.Core.List.{List}
 use borrow.Author.Tests.{eq-eqb, ne-eqb}
 use native.Mathlib.Omega.{arith}
+use lib.Dec.{ltb}
 use lib.ListN.{getD}
 use Rattle.meter.specs.Integer.{beAt}
 use Rattle.meter.specs.Time.{timeAt, compared}
@@ -12,7 +13,8 @@ use Rattle.meter.specs.declared.time.Time.{Time}
 use Rattle.meter.specs.declared.time.Time.the-variants as T
 use Rattle.record.specs.Times.{isAfter}
 use Rattle.parts.specs.CutHeader.{sooner, later}
-use Rattle.parts.specs.Pass.{firstOf}
+use Rattle.moment.specs.Moment.{overlapBetween}
+use Rattle.parts.specs.Pass.{firstOf, isLate}
 
 pub sooner-yes : (t u : Time) → isAfter (compared t u) ≡ true → u ≡ sooner t u
 sooner-yes T.Undefined u h = refl
@@ -48,3 +50,10 @@ time-none s at v e d = rw (eq-eqb (beAt s at 6) 0xffff_ffff_ffff (sym e ∙ d)) 
 
 pub time-some : (s : List ℕ) (at v : ℕ) → v ≡ beAt s at 6 → (v ≡ 0xffff_ffff_ffff → ⊥) → T.At (v / 0x1_0000_0000) (v % 0x1_0000_0000) ≡ timeAt s at
 time-some s at v e d = rw (e, ne-eqb (beAt s at 6) 0xffff_ffff_ffff (λ q. d (e ∙ q))) refl
+
+-- ---- too late, by which join it is
+pub late-identical : (i : Bool) (t u : Time) {r : Bool} → i ≡ true → r ≡ isAfter (compared t u) → r ≡ isLate i t u
+late-identical i t u e d = d ∙ ap (λ (b : Bool). isLate b t u) (sym e)
+
+pub late-granules : (i : Bool) (t u : Time) {n : ℕ} → i ≡ false → n ≡ overlapBetween t u → ltb 1 n ≡ isLate i t u
+late-granules i t u e d = ap (ltb 1) d ∙ ap (λ (b : Bool). isLate b t u) (sym e)

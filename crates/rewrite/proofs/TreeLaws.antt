@@ -1,8 +1,10 @@
 -- ANY TWO TREES OF JOINS over one list of granules, neither refused anywhere, write the same bytes (02, request Seven: "Where both ways of joining three products
--- are accepted, the bytes are the same", of any number). By induction on the tree: what it writes is the pass of its granules. Assumes nothing.
+-- are accepted, the bytes are the same", of any number, and whichever of the two joins each is). By induction on the tree: what it writes is the pass of its
+-- granules. Assumes nothing.
 use Prim.Native.Nat.{ℕ, _+_, _≤_}
 use native.Mathlib.Omega.{arith}
 use mathlib.Core.Path.{_≡_, refl, sym, ap, subst, _∙_}
+use mathlib.Core.Bool.{Bool}
 use mathlib.Core.List.{List, [], _∷_, _++_}
 use lib.ListN.{length, getD, take, drop, length-append}
 use lib.Seq.{take-at}
@@ -49,15 +51,15 @@ record Told (ls : List (List ℕ)) (c : List ℕ) (u : Meets c) : Type 0 where
   tells : Tells first rest (mainOf c) (recordsAt c (u .list))
 
 -- what stands in the room is the join
-text-is : {a b room exit : List ℕ} {k : ℕ} (w : JoinResult a b room k exit) → take k exit ≡ w .text
+text-is : {i : Bool} {a b room exit : List ℕ} {k : ℕ} (w : JoinResult i a b room k exit) → take k exit ≡ w .text
 text-is {room = room} {k = k} w = ap (take k) (w .stands) ∙ take-at (w .text) (drop k room) k (sym (join-sized w))
 
 told : {t : Tree} {c : List ℕ} → Writes t c → (u : Meets c) → Told (granules t) c u
 told (alone {a = a}) u = record { first = P.granule (mainOf a) (recordsAt a (u .list)); rest = []; each = more u none; tells = tells-one (meets-built a u) }
 told (joined {a = a} {b = b} {k = k} x y j) u = both (join-written k (W.Bytes k) refl j) (λ v. told x v) (λ v. told y v) u
   where
-    both : {ls ks : List (List ℕ)} {a b room exit : List ℕ} {k : ℕ} (w : JoinResult a b room k exit) → ((u : Meets a) → Told ls a u) → ((u : Meets b) → Told ks b u) → (u : Meets (take k exit)) → Told (ls ++ ks) (take k exit) u
-    both {ls} {ks} {a} {b} w f g = subst (λ (c : List ℕ). (u : Meets c) → Told (ls ++ ks) c u) (sym (text-is w)) (λ u.
+    both : {i : Bool} {ls ks : List (List ℕ)} {a b room exit : List ℕ} {k : ℕ} (w : JoinResult i a b room k exit) → ((u : Meets a) → Told ls a u) → ((u : Meets b) → Told ks b u) → (u : Meets (take k exit)) → Told (ls ++ ks) (take k exit) u
+    both {ls = ls} {ks = ks} {a = a} {b = b} w f g = subst (λ (c : List ℕ). (u : Meets c) → Told (ls ++ ks) c u) (sym (text-is w)) (λ u.
         let x = f (w .first) in
         let y = g (w .second) in
         let A = meets-built a (w .first) in
@@ -76,7 +78,7 @@ record Passed (ls : List (List ℕ)) (c : List ℕ) : Type 0 where
   each : Each ls list
   pass : IsPass list c
 
-passed : {s t : Tree} {a b room exit : List ℕ} {k : ℕ} → Writes s a → Writes t b → JoinIs a b room (W.Bytes k) exit → Passed (granules s ++ granules t) (take k exit)
+passed : {i : Bool} {s t : Tree} {a b room exit : List ℕ} {k : ℕ} → Writes s a → Writes t b → JoinIs i a b room (W.Bytes k) exit → Passed (granules s ++ granules t) (take k exit)
 passed {k = k} x y j =
     let w = join-written k (W.Bytes k) refl j in
     let f = told x (w .first) in

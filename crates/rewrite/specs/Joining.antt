@@ -5,6 +5,7 @@ use mathlib.Core.Bool.{Bool, true}
 use mathlib.Core.List.{List, [], _∷_, _++_, List·Memᴰ as In}
 use lib.ListN.{length, getD, take, drop}
 use lib.Seq.{sets}
+use Rattle.meter.specs.declared.integer.Written.{Written}
 use Rattle.demands.specs.Product.{MainHeader, Meets}
 use Rattle.parts.specs.Parts.{joined, bytes, bytesOf, mainOf, recordsAt}
 use Rattle.parts.specs.Only.{only, isSphr}
@@ -16,6 +17,7 @@ use Rattle.parts.specs.Rewritten.{valueOf, text, number, copied, whole, fitsLin
 use Rattle.rewrite.specs.declared.sections.Sections.{Sections}
 use Rattle.rewrite.specs.Table.{Holds}
 use Rattle.rewrite.specs.Comparing.{Decides}
+use Rattle.rewrite.specs.Join.{JoinIs}
 use Rattle.rewrite.specs.Lining.{Adds, Totals, totalLines}
 use Rattle.rewrite.specs.Sectioning.{SectionsAre}
 use Rattle.rewrite.specs.Assembling.{Collected, Planned}
@@ -68,18 +70,21 @@ abbrev pub ssOf : (a b : List ℕ) → Two a b → List (List ℕ)
 ssOf a b t = recordsAt b (t .second .list)
 
 -- b says whether they have the same SPHR and global records; whether they are alike
-abbrev pub LikeIs : List ℕ → List ℕ → Bool → Type 0
-LikeIs a b r = (t : Two a b) → Decides (Like (rsOf a b t) (ssOf a b t)) r
+abbrev pub LikeIs : Bool → List ℕ → List ℕ → Bool → Type 0
+LikeIs i a b r = (t : Two a b) → Decides (Like i (rsOf a b t) (ssOf a b t)) r
 
-abbrev pub AlikeIs : List ℕ → List ℕ → Bool → Type 0
-AlikeIs a b r = (t : Two a b) → Decides (Alike (mainOf a) (mainOf b) (rsOf a b t) (ssOf a b t)) r
+abbrev pub AlikeIs : Bool → List ℕ → List ℕ → Bool → Type 0
+AlikeIs i a b r = (t : Two a b) → Decides (Alike i (mainOf a) (mainOf b) (rsOf a b t) (ssOf a b t)) r
 
--- they are alike, in time, and their sums fit
+-- their sums fit
 pub record Matched (a b : List ℕ) (x y : Sections) : Type 0 where
   pub found : Sections2 a b x y
-  pub alike : Alike (mainOf a) (mainOf b) (rsOf a b (found .two)) (ssOf a b (found .two))
-  pub in-time : InTime (rsOf a b (found .two)) (ssOf a b (found .two))
   pub sums : SumsFit (mainOf a) (mainOf b)
+
+-- the answer, whichever join it is of, where they are alike and in time
+abbrev pub MatchedIs : List ℕ → List ℕ → List ℕ → Written → List ℕ → Type 0
+MatchedIs a b room r exit =
+    (i : Bool) (t : Two a b) → Alike i (mainOf a) (mainOf b) (rsOf a b t) (ssOf a b t) → InTime i (rsOf a b t) (ssOf a b t) → JoinIs i a b room r exit
 
 -- what is gathered of both, for a table and a tally that are empty
 pub record Gathering2 (a b : List ℕ) (x y : Sections) (table tally : List ℕ) : Type 0 where

@@ -1,6 +1,8 @@
-// Two products joined into one (02, request Seven).
+// Two products joined into one: those of request Seven (02), with identical SPHR and global records, and granules of a pass, whose SPHR
+// and global records have the times of their own product.
 use crate::copy::copy;
 use crate::copy::is_same;
+use crate::copy::is_untimed;
 use crate::cut::refused;
 use crate::gather::gather;
 use crate::kinds::put_pointers;
@@ -11,7 +13,7 @@ use crate::plan::Plan;
 use crate::plan::plan_of;
 use crate::sections::Sections;
 use crate::sections::sections_of;
-use crate::times::is_after;
+use crate::times::is_late;
 use finish::Finished;
 use finish::verdict;
 use meter::integer::Written;
@@ -21,17 +23,16 @@ ghost use lib.Dec.{eqb};
 ghost use lib.ListN.{length};
 ghost use Rattle.demands.specs.Product.{Meets};
 ghost use Rattle.parts.specs.Parts.{mainOf};
-ghost use Rattle.parts.specs.Join.{Like};
-ghost use Rattle.parts.specs.Pass.{Alike};
+ghost use Rattle.parts.specs.Join.{identical, granules};
 ghost use Rattle.rewrite.specs.Comparing.{Decides};
 ghost use Rattle.rewrite.specs.Join.{JoinIs};
-ghost use Rattle.rewrite.specs.Joining.{Two, Sections2, Matched, Gathering2, Gathers2, LikeIs, AlikeIs};
+ghost use Rattle.rewrite.specs.Joining.{Two, Sections2, Matched, MatchedIs, Gathering2, Gathers2, LikeIs, AlikeIs};
 ghost use Rattle.rewrite.specs.Joining.{RecordsFor, PutsRecords, JoinPlanned, PutsJoin};
 
-// "with identical SPHR and global records".
-fn is_like(first: &[u8], f: Sections, second: &[u8], g: Sections) -> bool
+// "with identical SPHR and global records", or the same but for the times of their headers.
+fn is_like(same: bool, first: &[u8], f: Sections, second: &[u8], g: Sections) -> bool
     requires { ⌜ Sections2 (now first) (now second) f g ⌝ }
-    ensures { λ r. ⌜ LikeIs (now (first .entry)) (now (second .entry)) r ⌝ }
+    ensures { λ r. ⌜ LikeIs same (now (first .entry)) (now (second .entry)) r ⌝ }
 {
     if f.sphr != g.sphr {
         return false;
@@ -39,10 +40,22 @@ fn is_like(first: &[u8], f: Sections, second: &[u8], g: Sections) -> bool
     if f.global != g.global {
         return false;
     }
-    if !is_same(first, 3307, second, 3307, f.sphr) {
+    if same {
+        if !is_same(first, 3307, second, 3307, f.sphr) {
+            return false;
+        }
+        return is_same(
+            first,
+            3307 + f.sphr + f.ipr,
+            second,
+            3307 + g.sphr + g.ipr,
+            f.global,
+        );
+    }
+    if !is_untimed(first, 3307, second, 3307, f.sphr) {
         return false;
     }
-    is_same(
+    is_untimed(
         first,
         3307 + f.sphr + f.ipr,
         second,
@@ -51,14 +64,14 @@ fn is_like(first: &[u8], f: Sections, second: &[u8], g: Sections) -> bool
     )
 }
 
-fn is_alike(first: &[u8], f: Sections, second: &[u8], g: Sections) -> bool
+fn is_alike(same: bool, first: &[u8], f: Sections, second: &[u8], g: Sections) -> bool
     requires { ⌜ Sections2 (now first) (now second) f g ⌝ }
-    ensures { λ r. ⌜ AlikeIs (now (first .entry)) (now (second .entry)) r ⌝ }
+    ensures { λ r. ⌜ AlikeIs same (now (first .entry)) (now (second .entry)) r ⌝ }
 {
     if !four_agree(&first[..3307], &second[..3307]) {
         return false;
     }
-    is_like(first, f, second, g)
+    is_like(same, first, f, second, g)
 }
 
 // 0 or 1 records in a section of n bytes.
@@ -152,10 +165,10 @@ fn put_join(
     put_records(first, f, second, g, room, base);
 }
 
-// Products that are alike, in time, and whose sums fit.
+// Products whose sums fit: the answer, where they are alike and in time.
 fn join_matched(first: &[u8], f: Sections, second: &[u8], g: Sections, room: &mut [u8]) -> Written
     requires { ⌜ Matched (now first) (now second) f g ⌝ }
-    ensures { λ r. ⌜ JoinIs (now (first .entry)) (now (second .entry)) (now (room .entry)) r (now (room .exit)) ⌝ }
+    ensures { λ r. ⌜ MatchedIs (now (first .entry)) (now (second .entry)) (now (room .entry)) r (now (room .exit)) ⌝ }
 {
     let kept = (first.len() - 3307 - f.sphr - f.ipr)
         + (second.len() - 3307 - g.sphr - g.ipr - g.global);
@@ -175,18 +188,18 @@ fn join_matched(first: &[u8], f: Sections, second: &[u8], g: Sections, room: &mu
 }
 
 // Products that were accepted.
-fn join_products(first: &[u8], second: &[u8], room: &mut [u8]) -> Written
+fn join_products(same: bool, first: &[u8], second: &[u8], room: &mut [u8]) -> Written
     requires { ⌜ Two (now first) (now second) ⌝ }
-    ensures { λ r. ⌜ JoinIs (now (first .entry)) (now (second .entry)) (now (room .entry)) r (now (room .exit)) ⌝ }
+    ensures { λ r. ⌜ JoinIs same (now (first .entry)) (now (second .entry)) (now (room .entry)) r (now (room .exit)) ⌝ }
 {
     let f = sections_of(first);
     let g = sections_of(second);
-    if !is_alike(first, f, second, g) {
+    if !is_alike(same, first, f, second, g) {
         return refused(26, 0);
     }
     let stop = f.stop;
     let start = g.start;
-    if is_after(stop, start) {
+    if is_late(same, stop, start) {
         return refused(27, 0);
     }
     if !sums_fit(&first[..3307], &second[..3307]) {
@@ -196,22 +209,36 @@ fn join_products(first: &[u8], second: &[u8], room: &mut [u8]) -> Written
 }
 
 // To a first product that was accepted.
-fn join_second(first: &[u8], second: &[u8], room: &mut [u8]) -> Written
+fn join_second(same: bool, first: &[u8], second: &[u8], room: &mut [u8]) -> Written
     requires { ⌜ Meets (now first) ⌝ }
-    ensures { λ r. ⌜ JoinIs (now (first .entry)) (now (second .entry)) (now (room .entry)) r (now (room .exit)) ⌝ }
+    ensures { λ r. ⌜ JoinIs same (now (first .entry)) (now (second .entry)) (now (room .entry)) r (now (room .exit)) ⌝ }
 {
     match verdict(second) {
         Finished::Refused(r) => Written::Refused(r),
-        Finished::Accepted { count: _ } => join_products(first, second, room),
+        Finished::Accepted { count: _ } => join_products(same, first, second, room),
+    }
+}
+
+// To a first product that may not be accepted.
+fn join_first(same: bool, first: &[u8], second: &[u8], room: &mut [u8]) -> Written
+    ensures { λ r. ⌜ JoinIs same (now (first .entry)) (now (second .entry)) (now (room .entry)) r (now (room .exit)) ⌝ }
+{
+    match verdict(first) {
+        Finished::Refused(r) => Written::Refused(r),
+        Finished::Accepted { count: _ } => join_second(same, first, second, room),
     }
 }
 
 // One product of two that follow each other, at the start of the room.
 pub fn join(first: &[u8], second: &[u8], room: &mut [u8]) -> Written
-    ensures { λ r. ⌜ JoinIs (now (first .entry)) (now (second .entry)) (now (room .entry)) r (now (room .exit)) ⌝ }
+    ensures { λ r. ⌜ JoinIs identical (now (first .entry)) (now (second .entry)) (now (room .entry)) r (now (room .exit)) ⌝ }
 {
-    match verdict(first) {
-        Finished::Refused(r) => Written::Refused(r),
-        Finished::Accepted { count: _ } => join_second(first, second, room),
-    }
+    join_first(true, first, second, room)
+}
+
+// One product of two granules of a pass that follow each other, at the start of the room.
+pub fn join_pass(first: &[u8], second: &[u8], room: &mut [u8]) -> Written
+    ensures { λ r. ⌜ JoinIs granules (now (first .entry)) (now (second .entry)) (now (room .entry)) r (now (room .exit)) ⌝ }
+{
+    join_first(false, first, second, room)
 }

@@ -11,6 +11,7 @@ ghost use Rattle.meter.specs.Time.{timeAt, compared};
 ghost use Rattle.record.specs.Times.{isAfter};
 ghost use Rattle.parts.specs.Cut.{isUpTo, window, within};
 ghost use Rattle.parts.specs.CutHeader.{sooner, later};
+ghost use Rattle.parts.specs.Pass.{isLate};
 
 fn wide(b: u8) -> u32
     ensures { λ r. ⌜ (r ≡ b) × (r < 256) ⌝ }
@@ -82,6 +83,16 @@ pub(crate) fn is_after(time: Time, other: Time) -> bool
             Order::After => true,
         },
     }
+}
+
+// After the other: at all, or by more than the one millisecond that granules of a pass may overlap.
+pub(crate) fn is_late(identical: bool, stop: Time, start: Time) -> bool
+    ensures { λ r. ⌜ r ≡ isLate identical stop start ⌝ }
+{
+    if identical {
+        return is_after(stop, start);
+    }
+    moment::overlap(stop, start) > 1
 }
 
 pub(crate) fn is_within(first: Time, last: Time, time: Time) -> bool

@@ -2,6 +2,7 @@
 -- Assumes nothing.
 use Prim.Native.Nat.{ℕ}
 use mathlib.Core.Path.{_≡_}
+use mathlib.Core.Bool.{Bool}
 use mathlib.Core.List.{List}
 use Rattle.meter.specs.declared.integer.Written.{Written}
 use Rattle.meter.specs.declared.time.Time.{Time}
@@ -16,5 +17,5 @@ use Rattle.rewrite_c.specs.Rewriting.{CutTold, JoinTold}
 pub unique-wl-cut : (a : List ℕ) (t u : Time) (room p q n m : List ℕ) → CutTold a t u room p n → CutTold a t u room q m → (p ≡ q) × (n ≡ m)
 unique-wl-cut a t u room p q n m = two-told (λ (e : List ℕ) (r : Written). CutIs a (window t u) room r e) p q (λ r s. unique-cut a (window t u) room r s p q)
 
-pub unique-wl-join : (a b room p q n m : List ℕ) → JoinTold a b room p n → JoinTold a b room q m → (p ≡ q) × (n ≡ m)
-unique-wl-join a b room p q n m = two-told (λ (e : List ℕ) (r : Written). JoinIs a b room r e) p q (λ r s. unique-join a b room r s p q)
+pub unique-wl-join : {i : Bool} (a b room p q n m : List ℕ) → JoinTold i a b room p n → JoinTold i a b room q m → (p ≡ q) × (n ≡ m)
+unique-wl-join {i} a b room p q n m = two-told (λ (e : List ℕ) (r : Written). JoinIs i a b room r e) p q (λ r s. unique-join a b room r s p q)

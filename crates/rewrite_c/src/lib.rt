@@ -1,6 +1,7 @@
 // New products written from old ones, for C.
 use told::put::put_written;
 ghost use Rattle.told.specs.Given.{isSet, timeGiven};
+ghost use Rattle.parts.specs.Join.{identical, granules};
 ghost use Rattle.rewrite_c.specs.Rewriting.{CutTold, JoinTold};
 
 // The product with only the MDRs whose start lies in the window, at the start of the room: 0, 0, the bytes written, 0.
@@ -27,7 +28,15 @@ pub extern "C" fn wl_cut(
 // One product of two that follow each other, at the start of the room: 0, 0, the bytes written, 0.
 #[no_mangle]
 pub extern "C" fn wl_join(first: &[u8], second: &[u8], room: &mut [u8], answer: &mut [u64; 4])
-    ensures { λ _. ⌜ JoinTold (now (first .entry)) (now (second .entry)) (now (room .entry)) (now (room .exit)) (now (answer .exit)) ⌝ }
+    ensures { λ _. ⌜ JoinTold identical (now (first .entry)) (now (second .entry)) (now (room .entry)) (now (room .exit)) (now (answer .exit)) ⌝ }
 {
     put_written(answer, rewrite::join::join(first, second, room));
+}
+
+// One product of two granules of a pass that follow each other, at the start of the room: 0, 0, the bytes written, 0.
+#[no_mangle]
+pub extern "C" fn wl_join_pass(first: &[u8], second: &[u8], room: &mut [u8], answer: &mut [u64; 4])
+    ensures { λ _. ⌜ JoinTold granules (now (first .entry)) (now (second .entry)) (now (room .entry)) (now (room .exit)) (now (answer .exit)) ⌝ }
+{
+    put_written(answer, rewrite::join::join_pass(first, second, room));
 }

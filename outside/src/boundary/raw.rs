@@ -30,6 +30,10 @@ extern "C" {
     fn wl_join(
         first: *const u8, first_len: usize, second: *const u8, second_len: usize, room: *mut u8, room_len: usize, answer: &mut [u64; 4],
     );
+    #[rustfmt::skip]
+    fn wl_join_pass(
+        first: *const u8, first_len: usize, second: *const u8, second_len: usize, room: *mut u8, room_len: usize, answer: &mut [u64; 4],
+    );
     fn wl_check_cut(original: *const u8, len: usize, cut: *const u8, cut_len: usize, answer: &mut [u64; 4]);
 
     fn wl_replay(record: *const u8, len: usize, product: *const u8, product_len: usize, answer: &mut [u64; 4]);
@@ -245,6 +249,13 @@ pub fn join(first: &[u8], second: &[u8], room: &mut [u8]) -> [u64; 4] {
     // SAFETY: as above.
     answered(|answer| unsafe {
         wl_join(first.as_ptr(), first.len(), second.as_ptr(), second.len(), room.as_mut_ptr(), room.len(), answer)
+    })
+}
+
+pub fn join_pass(first: &[u8], second: &[u8], room: &mut [u8]) -> [u64; 4] {
+    // SAFETY: as above.
+    answered(|answer| unsafe {
+        wl_join_pass(first.as_ptr(), first.len(), second.as_ptr(), second.len(), room.as_mut_ptr(), room.len(), answer)
     })
 }
 

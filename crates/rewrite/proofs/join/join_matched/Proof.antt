@@ -12,7 +12,7 @@ use Rattle.rewrite.specs.Assembling.{PlanOf}
 use Rattle.rewrite.specs.Joining.{rsOf, ssOf}
 use Rattle.rewrite.proofs.PlanLaws.{zeros-empty}
 use Rattle.rewrite.proofs.StretchLaws.{sections-come}
-use Rattle.rewrite.proofs.JoinPlanLaws.{kept-is, kept-at, says-big, says-unplanned, says-written, two-low, answer-at}
+use Rattle.rewrite.proofs.JoinPlanLaws.{kept-is, kept-at, matched-is, says-big, says-unplanned, says-written, two-low, answer-at}
 use Rattle.rewrite.proofs.join.join_matched.Statement.{statement}
 use Rattle.rewrite.proofs.join.join_matched.Tie as tie
 
@@ -56,7 +56,7 @@ add-kept : tie.Need-add-kept
 add-kept c = record { fits = two-low _ _ (omega (arith, low-1 (S c))) (omega (arith, low-2 (S c))) }
 
 returns : tie.Need-returns
-returns c = let d = c .before in let k = d .before in answer-at (c .refused .ensures) (says-big (S k .pre) _ (kept k) (d .if1 .taken))
+returns c = let d = c .before in let k = d .before in matched-is (S k .pre) (λ i al ti. answer-at (c .refused .ensures) (says-big (S k .pre) al ti _ (kept k) (d .if1 .taken)))
 
 gather-both-requires : tie.Need-gather-both-requires
 gather-both-requires c κs =
@@ -110,7 +110,7 @@ returns-2 : tie.Need-returns-2
 returns-2 c =
     let r = c .before in
     let p = r .before .before .before in
-    says-unplanned (T p .pre) _ _ (planned p _ (r .r .given .1))
+    matched-is (T p .pre) (λ i al ti. says-unplanned (T p .pre) al ti _ _ (planned p _ (r .r .given .1)))
 
 put-join-requires : tie.Need-put-join-requires
 put-join-requires c κs =
@@ -129,7 +129,7 @@ returns-3 c =
     let j = c .before .before in
     let b = j .before .before .before .before .before in
     let p = b .before .before .before in
-    says-written (T p .pre) (planned p _ (b .base .given .1)) (j .put-join .ensures)
+    matched-is (T p .pre) (λ i al ti. says-written (T p .pre) al ti (planned p _ (b .base .given .1)) (j .put-join .ensures))
 
 pub join-matched-spec : {M : Type 1} → statement M
 join-matched-spec =

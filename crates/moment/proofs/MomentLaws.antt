@@ -18,9 +18,9 @@ use Rattle.meter.specs.declared.time.Time.the-variants as T
 use Rattle.meter.specs.declared.time.Order.the-variants as O
 use Rattle.meter.proofs.IntegerLaws.{beAt-lt}
 use Rattle.meter.proofs.TimeLaws.{bits-none, bits-some}
-use Rattle.month.specs.Moment.{extraBefore, onLine, gapBetween, overlapBetween, undefinedBetween}
-use Rattle.month.specs.Counting.{extraOf, BetweenIs}
-use Rattle.month.specs.declared.moment.Between.{Between}
+use Rattle.moment.specs.Moment.{extraBefore, onLine, gapBetween, overlapBetween, undefinedBetween}
+use Rattle.moment.specs.Pairing.{extraOf, BetweenIs}
+use Rattle.moment.specs.declared.Between.{Between}
 
 -- ---- the extra seconds
 on : ℕ → ℕ → ℕ
@@ -207,3 +207,12 @@ module _ (stop start : ℕ) {x y none from end : ℕ} (x-is : x ≡ lineOf stop)
           let e = from-is .0 (none-is ∙ sym (b .undefined)) ∙ x-is in
           let p = below-greater from y end-is in
           record { gap = p .0 ∙ rw (e, y-is) (b .gap); overlap = p .1 ∙ rw (e, y-is) (b .overlap); undefined = none-is }
+
+-- how far a stop lies after a start, by where the two stand
+pub overlap-is :
+    (t u : Time) (d m e n p q r : ℕ) → t ≡ T.At d m → u ≡ T.At e n → p ≡ onLine d m → q ≡ onLine e n → r ≡ p - q
+    → r ≡ overlapBetween t u
+overlap-is t u d m e n p q r x y v w z = rw (x, y, z, v, w) refl
+
+pub place-is : (d m w x l : ℕ) → w ≡ d → x ≡ extraBefore w → l ≡ m → w * 86400000 + x + l ≡ onLine d m
+place-is d m w x l p q r = rw (r, q, p) refl

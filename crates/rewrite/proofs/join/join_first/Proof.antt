@@ -1,9 +1,9 @@
--- `rewrite::join::join` meets its contract: the verdict of the first, and what comes next where it is accepted. Assumes nothing.
+-- `rewrite::join::join_first` meets its contract: the verdict of the first, and what comes next where it is accepted. Assumes nothing.
 use Rattle.demands.proofs.Accepted.{accepted-product, verdict-at}
 use Rattle.rewrite.specs.Join.{first-unfit}
 use borrow.Author.Needs.{needs}
-use Rattle.rewrite.proofs.join.join.Statement.{statement}
-use Rattle.rewrite.proofs.join.join.Tie as tie
+use Rattle.rewrite.proofs.join.join_first.Statement.{statement}
+use Rattle.rewrite.proofs.join.join_first.Tie as tie
 
 join-second-requires : tie.Need-join-second-requires
 join-second-requires c κs = let e = c .before in accepted-product (verdict-at _ (e .enum-told .given .1) (e .before .before .verdict .ensures))
@@ -11,8 +11,8 @@ join-second-requires c κs = let e = c .before in accepted-product (verdict-at _
 returns : tie.Need-returns
 returns c = let r = c .before in first-unfit _ (verdict-at _ (r .r .given .1) (r .before .before .verdict .ensures))
 
-pub join-spec : {M : Type 1} → statement M
-join-spec =
+pub join-first-spec : {M : Type 1} → statement M
+join-first-spec =
     tie.close
     (tie.spec
     (λ c κs. search needs)

@@ -1,9 +1,9 @@
--- `month::moment::extra_before` meets its contract: a test for each of the days. Assumes nothing.
+-- `moment::extra_before` meets its contract: a test for each of the days. Assumes nothing.
 use native.Mathlib.Omega.{arith}
-use Rattle.month.proofs.MomentLaws.{extra-is}
+use Rattle.moment.proofs.MomentLaws.{extra-is}
 use borrow.Author.Needs.{needs}
-use Rattle.month.proofs.moment.extra_before.Statement.{statement}
-use Rattle.month.proofs.moment.extra_before.Tie as tie
+use Rattle.moment.proofs.extra_before.Statement.{statement}
+use Rattle.moment.proofs.extra_before.Tie as tie
 
 returns : tie.Need-returns
 returns c =

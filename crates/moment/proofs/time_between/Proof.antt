@@ -1,8 +1,8 @@
--- `month::moment::time_between` meets its contract: where the two stand on the line, and how far each is from the greater. Assumes nothing.
-use Rattle.month.proofs.MomentLaws.{between-is}
+-- `moment::time_between` meets its contract: where the two stand on the line, and how far each is from the greater. Assumes nothing.
+use Rattle.moment.proofs.MomentLaws.{between-is}
 use borrow.Author.Needs.{needs}
-use Rattle.month.proofs.moment.time_between.Statement.{statement}
-use Rattle.month.proofs.moment.time_between.Tie as tie
+use Rattle.moment.proofs.time_between.Statement.{statement}
+use Rattle.moment.proofs.time_between.Tie as tie
 
 returns : tie.Need-returns
 returns c =

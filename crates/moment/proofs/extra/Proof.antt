@@ -1,10 +1,10 @@
--- `month::moment::extra` meets its contract: the test in turn. Assumes nothing.
+-- `moment::extra` meets its contract: the test in turn. Assumes nothing.
 use native.Mathlib.Omega.{arith}
 use borrow.Author.Tests.{le-ltb, lt-ltb}
-use Rattle.month.specs.Counting.{extraOf}
+use Rattle.moment.specs.Pairing.{extraOf}
 use borrow.Author.Needs.{needs}
-use Rattle.month.proofs.moment.extra.Statement.{statement}
-use Rattle.month.proofs.moment.extra.Tie as tie
+use Rattle.moment.proofs.extra.Statement.{statement}
+use Rattle.moment.proofs.extra.Tie as tie
 
 returns : tie.Need-returns
 unfolding extraOf

@@ -1,15 +1,16 @@
-// The line of milliseconds, on which each of request Two's days has its extra second.
+// The line of milliseconds, on which each of request Two's days has its extra second (02, request Twelve).
+use meter::time::Time;
 ghost use mathlib.Core.Path.{_≡_};
 ghost use Prim.Native.Nat.{_+_, _-_, _/_, _%_, _≤_, _<_};
 ghost use Rattle.meter.specs.Time.{timeOf};
-ghost use Rattle.month.specs.Moment.{extraBefore, onLine, undefinedBetween};
-ghost use Rattle.month.specs.Counting.{extraOf, BetweenIs};
+ghost use Rattle.moment.specs.Moment.{extraBefore, onLine, overlapBetween, undefinedBetween};
+ghost use Rattle.moment.specs.Pairing.{extraOf, BetweenIs};
 
 // All 48 bits one.
 const UNDEFINED: u64 = 0xffff_ffff_ffff;
 
 // What a pair adds: milliseconds of gap, of overlap, and 1 where one of its times is undefined.
-pub(crate) struct Between {
+pub struct Between {
     pub gap: u64,
     pub overlap: u64,
     pub undefined: u64,
@@ -79,7 +80,7 @@ fn greater(x: u64, y: u64) -> u64
 
 // One stop and the next start, by their 48 bits. Where one is undefined the start is taken for both. (No early return, and no difference
 // that stops at 0, which on x86-64 is a branch: of times in no order it would be guessed wrong.)
-pub(crate) fn time_between(stop: u64, start: u64) -> Between
+pub fn time_between(stop: u64, start: u64) -> Between
     requires { ⌜ (stop < 281474976710656) × (start < 281474976710656) ⌝ }
     ensures { λ r. ⌜ BetweenIs (timeOf stop) (timeOf start) r ⌝ }
 {
@@ -91,5 +92,51 @@ pub(crate) fn time_between(stop: u64, start: u64) -> Between
         gap: end - from,
         overlap: end - to,
         undefined: none,
+    }
+}
+
+fn wide(day: u16) -> u64
+    ensures { λ r. ⌜ (r ≡ day) × (r < 65536) ⌝ }
+{
+    day as u64
+}
+
+fn long(milli: u32) -> u64
+    ensures { λ r. ⌜ (r ≡ milli) × (r < 4294967296) ⌝ }
+{
+    milli as u64
+}
+
+// Where a time stands.
+fn place_of(day: u16, milli: u32) -> u64
+    ensures { λ r. ⌜ r ≡ onLine day milli ⌝ }
+{
+    let d = wide(day);
+    d * 86_400_000 + extra_before(d) + long(milli)
+}
+
+// How far the first is above the second.
+fn above(x: u64, y: u64) -> u64
+    ensures { λ r. ⌜ r ≡ x - y ⌝ }
+{
+    if x < y {
+        return 0;
+    }
+    x - y
+}
+
+// The milliseconds that a stop lies after a start; none where one is undefined.
+pub fn overlap(stop: Time, start: Time) -> u64
+    ensures { λ r. ⌜ r ≡ overlapBetween stop start ⌝ }
+{
+    match stop {
+        Time::Undefined => 0,
+        Time::At { day, milli } => match start {
+            Time::Undefined => 0,
+            Time::At {
+                day: other,
+                milli: late,
+            } => above(place_of(day, milli), place_of(other, late)),
+        },
     }
 }

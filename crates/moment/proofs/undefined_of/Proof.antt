@@ -1,7 +1,7 @@
--- `month::moment::undefined_of` meets its contract: the stop, the start, or none of them. Assumes nothing.
-use Rattle.month.proofs.MomentLaws.{no-stop, no-start, both-some}
-use Rattle.month.proofs.moment.undefined_of.Statement.{statement}
-use Rattle.month.proofs.moment.undefined_of.Tie as tie
+-- `moment::undefined_of` meets its contract: the stop, the start, or none of them. Assumes nothing.
+use Rattle.moment.proofs.MomentLaws.{no-stop, no-start, both-some}
+use Rattle.moment.proofs.undefined_of.Statement.{statement}
+use Rattle.moment.proofs.undefined_of.Tie as tie
 
 returns : tie.Need-returns
 returns c = let a = c .before .args in no-stop (a .stop) (a .start) (c .if1 .taken) .undefined

@@ -1,8 +1,10 @@
 /*
- * Warpladle: a proved reader of EPS native products (Metop and NOAA polar orbiters). `tools/archive` writes two archives for x86-64, which need
- * nothing but the C library:
+ * Warpladle: a proved reader of EPS native products (Metop and NOAA polar orbiters). `tools/archive` writes two archives, which need nothing but the
+ * C library:
  *     target/libwarpladle.a   every function of this header
  *     target/libhandheld.a    those under "numbers, times and dates" alone, for meters
+ * Both are for x86-64 and for Arm of 64 bits. They are made of LLVM modules for 64-bit little-endian machines: clang can compile these for another such
+ * processor; one of 32 bits or of the other byte order would need modules of its own.
  *
  * A product is a main header (MPHR) of 3,307 bytes and then records, one after the other, each with a header of 20 bytes. Every number in it is
  * big-endian. A record's header: byte 0 the class, 1 the instrument group, 2 the subclass, 3 the version, 4 to 7 the record's size with its header,

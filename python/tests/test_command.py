@@ -362,10 +362,10 @@ def test_a_name_of_any_bytes(environment, rich, tmp_path):
 def test_no_library_is_a_sentence(run, rich, tmp_path):
     status, out, err = run('check', rich, WARPLADLE_LIBRARY=str(tmp_path / 'none.so'))
     assert (status, out) == (2, '') and err == (
-        f'warpladle: there is no {tmp_path}/none.so: make it with tools/shared, or name one in WARPLADLE_LIBRARY\n')
+        f'warpladle: there is no {tmp_path}/none.so: make it with tools/archive, or name one in WARPLADLE_LIBRARY\n')
     (tmp_path / 'text.so').write_text('no library')
     status, out, err = run('check', rich, WARPLADLE_LIBRARY=str(tmp_path / 'text.so'))
-    assert (status, out) == (2, '') and f'{tmp_path}/text.so cannot be loaded' in err and 'tools/shared makes one for this machine' in err
+    assert (status, out) == (2, '') and f'{tmp_path}/text.so cannot be loaded' in err and 'tools/archive makes one for this machine' in err
 
 
 def test_help_and_bad_usage(run):

@@ -61,7 +61,7 @@ def test_the_state_of_a_watch_is_as_long_as_in_c(tmp_path):
 def test_every_function_is_in_the_library():
     for name in [*FUNCTIONS, 'watch_new']:
         assert library.function(name)
-    with pytest.raises(library.LibraryMissing, match='has no wl_nothing: make it anew with tools/shared'):
+    with pytest.raises(library.LibraryMissing, match='has no wl_nothing: make it anew with tools/archive'):
         library.function('nothing')
 
 

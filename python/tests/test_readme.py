@@ -34,9 +34,9 @@ def test_the_commands(folder, environment):
 
 
 def test_three_commands_to_a_cut_file(folder, environment):
-    """The first installs packages and the second is tools/shared, which have been run; the third makes the file."""
+    """The first installs packages and the second is tools/archive, which have been run; the third makes the file."""
     install, shared, cut = re.search(r'^    (apt-get install .*)\n    (.*)\n    (.*)\n', README.read_text(), re.M).groups()
-    assert shared == 'tools/shared' and os.access(ROOT / shared, os.X_OK) and 'python3-numpy' in install
+    assert shared == 'tools/archive' and os.access(ROOT / shared, os.X_OK) and 'python3-numpy' in install
     assert subprocess.run(cut, shell=True, cwd=folder, env=environment, capture_output=True, text=True).returncode == 0
     assert (folder / 'target' / 'town.eps').stat().st_size == 3843
 

@@ -1,4 +1,4 @@
-"""The functions of include/warpladle.h, called in the shared library that `tools/shared` makes.
+"""The functions of include/warpladle.h, called in the shared library that `tools/archive` makes.
 
 Each takes Python's numbers and buffers and gives the library's answer without its first two places, or raises `Refused`. Nothing is copied: a buffer
 (bytes, a mapped file, a numpy array) is lent by its address for the time of the call, during which other threads run.
@@ -157,8 +157,8 @@ def _open() -> ctypes.CDLL:
             try:
                 return ctypes.CDLL(str(path))
             except OSError as error:
-                raise LibraryMissing(f'{path} cannot be loaded ({error}); tools/shared makes one for this machine') from None
-    raise LibraryMissing(f'there is no {" and no ".join(map(str, looked))}: make it with tools/shared, or name one in WARPLADLE_LIBRARY')
+                raise LibraryMissing(f'{path} cannot be loaded ({error}); tools/archive makes one for this machine') from None
+    raise LibraryMissing(f'there is no {" and no ".join(map(str, looked))}: make it with tools/archive, or name one in WARPLADLE_LIBRARY')
 
 
 def function(name: str) -> Any:
@@ -169,7 +169,7 @@ def function(name: str) -> Any:
         try:
             called = getattr(_loaded[''], 'wl_' + name)
         except AttributeError:
-            raise LibraryMissing(f'{_loaded[""]._name} has no wl_{name}: make it anew with tools/shared') from None
+            raise LibraryMissing(f'{_loaded[""]._name} has no wl_{name}: make it anew with tools/archive') from None
         called.restype = None
         _loaded[name] = called
     return _loaded[name]

@@ -187,11 +187,22 @@ pub fn join_pass_into(first: &[u8], second: &[u8], room: &mut [u8]) -> Result<us
 
 /// Two products that follow each other as one. It is seldom longer than the two; where it is, they are joined again into the bytes that it needs.
 pub fn join(first: &[u8], second: &[u8]) -> Result<Vec<u8>, Refusal> {
+    joined(join_into, first, second)
+}
+
+/// As `join`, of two granules of a pass.
+pub fn join_pass(first: &[u8], second: &[u8]) -> Result<Vec<u8>, Refusal> {
+    joined(join_pass_into, first, second)
+}
+
+type JoinInto = fn(&[u8], &[u8], &mut [u8]) -> Result<usize, Refusal>;
+
+fn joined(into: JoinInto, first: &[u8], second: &[u8]) -> Result<Vec<u8>, Refusal> {
     let mut room = vec![0; first.len() + second.len()];
-    let written = match join_into(first, second, &mut room) {
+    let written = match into(first, second, &mut room) {
         Err(Refusal { number: 18, place }) => {
             room.resize(place as usize, 0);
-            join_into(first, second, &mut room)
+            into(first, second, &mut room)
         }
         other => other,
     };

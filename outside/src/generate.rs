@@ -683,6 +683,66 @@ pub fn unlike(rng: &mut Rng, p: &mut Product) {
     p.bytes[at] = if at < MAIN_SIZE { 32 + rng.below(95) as u8 } else { p.bytes[at].wrapping_add(1) };
 }
 
+/// Own times for the SPHR and the global records (002, Table 15): the start of the product's first MDR and the stop of its last, or now and then others.
+pub fn put_own_times(rng: &mut Rng, p: &mut Product) {
+    let mdrs = p.starts.iter().filter(|s| p.bytes[**s] == 8);
+    let (first, last) = (mdrs.clone().next(), mdrs.last());
+    let mut times = [0xff; 12];
+    if let (Some(first), Some(last)) = (first, last) {
+        times[..6].copy_from_slice(&p.bytes[first + 8..first + 14]);
+        times[6..].copy_from_slice(&p.bytes[last + 14..last + 20]);
+    }
+    if times[..6] > times[6..] {
+        times[6..].fill(0xff); // a start after the stop would be a fault; undefined is none
+    }
+    for s in &p.starts {
+        let header = &mut p.bytes[*s..s + 20];
+        match header[0] {
+            2 | 4 | 5 if rng.one_in(10) => put_time(rng, header),
+            2 | 4 | 5 => header[8..].copy_from_slice(&times),
+            _ => {}
+        }
+    }
+}
+
+/// The millisecond after a time, and the one before, where there is one.
+fn after(t: Time) -> Time {
+    if t.milli < leap::last_milli(t.day) {
+        return Time { milli: t.milli + 1, ..t };
+    }
+    t.day.checked_add(1).map_or(t, |day| Time { day, milli: 0 })
+}
+
+fn before(t: Time) -> Time {
+    if t.milli > 0 {
+        return Time { milli: t.milli - 1, ..t };
+    }
+    t.day.checked_sub(1).map_or(t, |day| Time { day, milli: leap::last_milli(day) })
+}
+
+/// The last MDR of one and the first of the next meet: the start is some milliseconds from the stop, about the end of a day most often.
+pub fn meet(rng: &mut Rng, first: &mut Product, second: &mut Product) {
+    let last = first.starts.iter().rev().find(|s| first.bytes[**s] == 8);
+    let next = second.starts.iter().find(|s| second.bytes[**s] == 8);
+    let (Some(last), Some(next)) = (last, next) else { return };
+    let any = rng.below(65_536) as u16;
+    let day = if rng.one_in(2) { day_near_leap(rng) } else { any };
+    let end = leap::last_milli(day);
+    let within = rng.below(end as usize) as u32;
+    let stop = Time { day, milli: rng.pick(&[0, 1, 2, end - 1, end, within]) };
+    let mut start = stop;
+    for _ in 0..rng.below(4) {
+        start = before(start);
+    }
+    for _ in 0..rng.pick(&[0, 0, 0, 1, 2, 4, 1000]) {
+        start = after(start);
+    }
+    first.bytes[last + 8..last + 14].fill(0xff);
+    put_cds(&mut first.bytes, last + 14, stop);
+    put_cds(&mut second.bytes, next + 8, start);
+    second.bytes[next + 14..next + 20].fill(0xff);
+}
+
 /// A count or duration of both products on either side of what their sum may be.
 pub fn near_limit(rng: &mut Rng, first: &mut Product, second: &mut Product) {
     let line = 64 + rng.below(7);

@@ -1,14 +1,19 @@
 //! Request Seven: two products that follow each other become one. The judge's own pass over each is told where its sections start, which kinds of
-//! records there are and which times meet; what stays is then copied section by section.
+//! records there are and which times meet; what stays is then copied section by section. The join of granules differs in what it asks of the two.
 use crate::cut::{
     kind, over_limits, put_count, put_line, put_pointers, put_size_and_totals, DEGRADED_AND_DURATIONS, IPR_SIZE, KINDS, SENSING_END_LINE, UNDEFINED,
 };
 use crate::fast::{self, be32};
+use crate::leap::moment;
 use crate::lines::{LINES, MAIN_SIZE, STARTS};
 use crate::values::Refusal;
 
 /// INSTRUMENT_ID, PRODUCT_TYPE, PROCESSING_LEVEL and SPACECRAFT_ID.
 pub const LIKE_LINES: [usize; 4] = [5, 7, 8, 9];
+/// The two times of a record's header (01): 002, Table 15, gives those of an SPHR and of global records the first and last MDR of their own product.
+const TIMES: std::ops::Range<usize> = 8..20;
+/// 002, 4.2.1.2.3: times are rounded to a millisecond, so that this much overlap of MDRs that follow each other is nominal.
+const NOMINAL_OVERLAP: u64 = 1;
 /// A first record of the second product; starts are below it.
 const OF_SECOND: u32 = 1 << 31;
 /// The kinds of class 8 are the last.
@@ -138,14 +143,57 @@ fn put_parts(room: &mut [u8], parts: [&[u8]; 4]) {
     assert_eq!(at, room.len());
 }
 
-fn alike(first: &[u8], a: &Sections, second: &[u8], b: &Sections) -> bool {
-    LIKE_LINES.iter().all(|k| value(first, *k) == value(second, *k))
-        && first[MAIN_SIZE..a.pointers] == second[MAIN_SIZE..b.pointers]
-        && first[a.globals..a.variables] == second[b.globals..b.variables]
+/// What is asked of two products that are to be joined.
+#[derive(Clone, Copy, Debug, PartialEq, Eq)]
+pub enum Rule {
+    /// Request Seven: SPHR and global records are the same in every byte, and the first does not stop after the second starts.
+    Identical,
+    /// Granules of a pass: their header times are their own product's, and a millisecond of overlap is nominal.
+    Pass,
 }
 
-fn out_of_time(a: &Sections, b: &Sections) -> bool {
-    a.stop != UNDEFINED && b.start != UNDEFINED && a.stop > b.start
+impl Rule {
+    /// Whether two runs of whole records are the same.
+    fn same(self, a: &[u8], b: &[u8]) -> bool {
+        match self {
+            Rule::Identical => a == b,
+            Rule::Pass => same_but_for_times(a, b),
+        }
+    }
+
+    /// Whether a stop is too late for a start, both defined.
+    fn late(self, stop: u64, start: u64) -> bool {
+        match self {
+            Rule::Identical => stop > start,
+            Rule::Pass => moment(stop) > moment(start) + NOMINAL_OVERLAP,
+        }
+    }
+}
+
+fn same_but_for_times(a: &[u8], b: &[u8]) -> bool {
+    if a.len() != b.len() {
+        return false;
+    }
+    let mut at = 0;
+    while at < a.len() {
+        let end = at + be32(&a[at..], 4) as usize;
+        let (head, rest) = (at..at + TIMES.start, at + TIMES.end..end);
+        if a[head.clone()] != b[head] || a[rest.clone()] != b[rest] {
+            return false;
+        }
+        at = end;
+    }
+    true
+}
+
+fn alike(rule: Rule, first: &[u8], a: &Sections, second: &[u8], b: &Sections) -> bool {
+    LIKE_LINES.iter().all(|k| value(first, *k) == value(second, *k))
+        && rule.same(&first[MAIN_SIZE..a.pointers], &second[MAIN_SIZE..b.pointers])
+        && rule.same(&first[a.globals..a.variables], &second[b.globals..b.variables])
+}
+
+fn out_of_time(rule: Rule, a: &Sections, b: &Sections) -> bool {
+    a.stop != UNDEFINED && b.start != UNDEFINED && rule.late(a.stop, b.start)
 }
 
 fn counts(a: &Sections, b: &Sections, kinds: usize) -> [u64; 9] {
@@ -159,15 +207,15 @@ fn counts(a: &Sections, b: &Sections, kinds: usize) -> [u64; 9] {
 }
 
 /// The bytes written. A refusal writes nothing.
-pub fn join(first: &[u8], second: &[u8], room: &mut [u8]) -> Result<usize, Refusal> {
+pub fn join(rule: Rule, first: &[u8], second: &[u8], room: &mut [u8]) -> Result<usize, Refusal> {
     let refused = |number, place| Err(Refusal { number, place });
     let mut kinds = Kinds { firsts: vec![0; KINDS], count: 0 };
     let a = surveyed(first, &mut kinds, 0)?;
     let b = surveyed(second, &mut kinds, OF_SECOND)?;
-    if !alike(first, &a, second, &b) {
+    if !alike(rule, first, &a, second, &b) {
         return refused(26, 0);
     }
-    if out_of_time(&a, &b) {
+    if out_of_time(rule, &a, &b) {
         return refused(27, 0);
     }
     let sums = sums(first, second)?;

@@ -35,3 +35,12 @@ pub fn last_second(date: Date, hour: u8, minute: u8) -> u8 {
         59
     }
 }
+
+/// The place of a time on the line of milliseconds (request Twelve): of a time of 48 bits, the milliseconds since day 0. Each day with a leap second
+/// before it adds 1,000.
+#[inline(always)]
+pub fn moment(time: u64) -> u64 {
+    let (day, milli) = (time >> 32, time & 0xffff_ffff);
+    let leaps = DAYS.iter().map(|d| (day > *d as u64) as u64).sum::<u64>();
+    day * 86_400_000 + milli + 1000 * leaps
+}

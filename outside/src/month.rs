@@ -1,8 +1,9 @@
 //! Request Twelve: the report over a month of products, in one pass over the headers of each for speed; and `plainly`, over the rows of `plain`
 //! with sums that no product can pass.
 use crate::fast::{self, Sink};
+use crate::leap::{self, moment};
 use crate::values::Refusal;
-use crate::{leap, plain, Finished};
+use crate::{plain, Finished};
 
 /// Products lent; records of the classes 1 to 8; bytes of them; milliseconds of gap; of overlap; pairs with an undefined time; products accepted;
 /// products refused with 1 to 17. A new report is all zeros.
@@ -83,14 +84,6 @@ impl Survey {
         (report[GAP], report[OVERLAP], report[UNDEFINED_PAIRS]) = (self.gap, self.overlap, self.undefined);
         report
     }
-}
-
-/// Milliseconds since day 0: each day with a leap second before the moment adds 1,000.
-#[inline(always)]
-fn moment(time: u64) -> u64 {
-    let (day, milli) = (time >> 32, time & 0xffff_ffff);
-    let leaps = leap::DAYS.iter().map(|d| (day > *d as u64) as u64).sum::<u64>();
-    day * 86_400_000 + milli + 1000 * leaps
 }
 
 /// The two together, or 36.

@@ -27,6 +27,11 @@ pub fn request_products() -> Vec<Vec<u8>> {
     packed("requests/products.bin")
 }
 
+/// Granules and what they are joined to, by the numbers of the vectors of a pass.
+pub fn pass_products() -> Vec<Vec<u8>> {
+    packed("pass/products.bin")
+}
+
 /// A product of request Two, and what the judges say of it.
 pub struct Judged {
     pub name: String,

@@ -171,13 +171,17 @@ fn generated() {
     assert!(told > tried / 2);
 }
 
-/// A join without its payload, or the refusal.
-fn join_of(first: &[u8], second: &[u8]) -> Result<Vec<u8>, Refusal> {
+/// Both joins without their payload, or the refusals.
+fn joins_of(first: &[u8], second: &[u8]) -> [Result<Vec<u8>, Refusal>; 2] {
     let mut room = vec![0; 2 * (first.len() + second.len())];
-    let answer = outside::join::join(first, second, &mut room).map(|n| blank(&room[..n]));
+    let answers = [Rule::Identical, Rule::Pass].map(|rule| join(rule, first, second, &mut room).map(|n| blank(&room[..n])));
     #[cfg(feature = "boundary")]
-    assert_eq!(outside::boundary::join(first, second).map(|bytes| blank(&bytes)), answer);
-    answer
+    {
+        use outside::boundary;
+        let theirs = [boundary::join(first, second), boundary::join_pass(first, second)];
+        assert_eq!(theirs.map(|answer| answer.map(|bytes| blank(&bytes))), answers);
+    }
+    answers
 }
 
 /// 26 compares the SPHR and the global records whole, so their payload is left as it is, but for a few pairs, of which it must tell some.
@@ -187,8 +191,12 @@ fn joins() {
     let (mut written, mut refused, mut unlike) = (0, 0, 0);
     for _ in 0..cases(20_000) / 4 {
         let before = product(&mut rng, 0).0;
-        let (second, first) = (follower(&mut rng, &before).bytes, before.bytes);
-        let right = join_of(&first, &second);
+        let mut after = follower(&mut rng, &before);
+        if rng.one_in(2) {
+            put_own_times(&mut rng, &mut after);
+        }
+        let (second, first) = (after.bytes, before.bytes);
+        let right = joins_of(&first, &second);
         let free = |bytes: &[u8]| records(bytes).into_iter().filter(|(class, _)| *class >= 6).flat_map(|(_, r)| r.start + 20..r.end).collect::<Vec<_>>();
         let mut others = [first.clone(), second.clone()];
         for bytes in &mut others {
@@ -196,12 +204,13 @@ fn joins() {
                 bytes[j] ^= rng.below(256) as u8;
             }
         }
-        assert!(join_of(&others[0], &others[1]) == right);
-        written += right.is_ok() as usize;
-        refused += right.is_err() as usize;
+        assert!(joins_of(&others[0], &others[1]) == right);
+        written += right.iter().filter(|answer| answer.is_ok()).count();
+        refused += right.iter().filter(|answer| answer.is_err()).count();
         if let Some(j) = payload(&first).first().filter(|j| !free(&first).contains(j)) {
             others[0][*j] ^= 1;
-            unlike += (join_of(&others[0], &others[1]) == Err(Refusal { number: 26, place: 0 })) as usize;
+            let told = joins_of(&others[0], &others[1]);
+            unlike += told.iter().filter(|answer| **answer == Err(Refusal { number: 26, place: 0 })).count();
         }
     }
     println!("{written} joins written and {refused} refused, before and after alike; {unlike} refused with 26 where a fixed record's payload was changed");

@@ -1,6 +1,7 @@
 //! Times of the judges on large products, of the watch, of the cut, of the join and of what else reads products: medians of runs taken in turn. The row
 //! listers fill the same rows.
 use outside::generate::{build, name_targets, set_number, Product, Rng, Shape, GROUPS};
+use outside::join::Rule;
 use outside::leaves::read_header;
 use outside::values::{Refusal, Time};
 use outside::watch::Watch;
@@ -391,7 +392,7 @@ fn measure_join(what: &str, make: impl Fn() -> Product, runs: usize, times: usiz
     let p = to_follow_itself(make());
     let (first, second) = (&p.bytes, &p.bytes.clone());
     let room = &RefCell::new(vec![0; 2 * first.len() + 27 * p.starts.len()]);
-    let size = join::join(first, second, &mut room.borrow_mut()).unwrap();
+    let size = join::join(Rule::Identical, first, second, &mut room.borrow_mut()).unwrap();
     let result = &room.borrow()[..size].to_vec();
     println!("{what}: {} bytes and as many, {} records each, joined to {size} bytes", first.len(), p.starts.len());
     let all = rounds(
@@ -400,15 +401,18 @@ fn measure_join(what: &str, make: impl Fn() -> Product, runs: usize, times: usiz
         vec![
             ("copy", Box::new(|| room.borrow_mut()[..size].copy_from_slice(black_box(result)))),
             ("verdicts fast", Box::new(|| assert_eq!(fast::verdict(black_box(first)), fast::verdict(black_box(second))))),
-            ("join", Box::new(|| assert_eq!(join::join(black_box(first), second, &mut room.borrow_mut()), Ok(size)))),
+            ("join", Box::new(|| assert_eq!(join::join(Rule::Identical, black_box(first), second, &mut room.borrow_mut()), Ok(size)))),
             #[cfg(feature = "boundary")]
             ("verdicts boundary", Box::new(|| assert_eq!(boundary::extent(black_box(first)), boundary::extent(black_box(second))))),
             #[cfg(feature = "boundary")]
             ("join boundary", Box::new(|| assert_eq!(boundary::join_into(black_box(first), second, &mut room.borrow_mut()), Ok(size)))),
+            #[cfg(feature = "boundary")]
+            ("join pass boundary", Box::new(|| assert_eq!(boundary::join_pass_into(black_box(first), second, &mut room.borrow_mut()), Ok(size)))),
         ],
     );
     assert!(room.borrow()[..size] == result[..]);
     ratio(&all, "join boundary", "join");
+    ratio(&all, "join pass boundary", "join boundary");
     ratio(&all, "join boundary", "copy");
 }
 

@@ -82,17 +82,35 @@ fn replay_parts(recorded: &[u8], product: &[u8], n: usize) -> Replayed
     requires { ⌜ Parts (now recorded) (now product) n ⌝ }
     ensures { λ r. ⌜ ReplayIs (now (recorded .entry)) (now (product .entry)) r ⌝ }
 {
-    let mut w = watch::new();
+    let new = watch::new();
+    let mut mark = new.mark;
+    let mut totals = new.totals;
+    let mut tally = new.tally;
+    let mut starts = new.starts;
+    let mut targets = new.targets;
+    let mut kinds = new.kinds;
+    let mut head = new.head;
+    let mut under = new.under;
     let mut at: usize = 0;
     let mut k: usize = 0;
     while k < n {
         let to = at + number_at(recorded, 1 + k);
-        let fed = watch::step(w, &product[at..to]);
+        let fed = watch::step_in(
+            mark,
+            &mut totals,
+            &mut tally,
+            &mut starts,
+            &mut targets,
+            &mut kinds,
+            &mut head,
+            &mut under,
+            &product[at..to],
+        );
         let answer = fed.answer;
         if !is_recorded(recorded, 2 + n + 3 * k, answer) {
             return Replayed::Differs(k);
         }
-        w = fed.watch;
+        mark = fed.mark;
         at = to;
         k += 1;
     }

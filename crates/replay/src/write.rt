@@ -75,15 +75,33 @@ fn put_answers(lengths: &[u32], product: &[u8], room: &mut [u8])
     ensures { λ _. ⌜ PutsAnswers (now (lengths .entry)) (now (product .entry)) (length (now (lengths .entry)))
         (now (room .entry)) (now (room .exit)) ⌝ }
 {
-    let mut w = watch::new();
+    let new = watch::new();
+    let mut mark = new.mark;
+    let mut totals = new.totals;
+    let mut tally = new.tally;
+    let mut starts = new.starts;
+    let mut targets = new.targets;
+    let mut kinds = new.kinds;
+    let mut head = new.head;
+    let mut under = new.under;
     let mut at: usize = 0;
     let mut k: usize = 0;
     while k < lengths.len() {
         let to = at + wide(lengths[k]);
-        let fed = watch::step(w, &product[at..to]);
+        let fed = watch::step_in(
+            mark,
+            &mut totals,
+            &mut tally,
+            &mut starts,
+            &mut targets,
+            &mut kinds,
+            &mut head,
+            &mut under,
+            &product[at..to],
+        );
         let answer = fed.answer;
         put_answer(room, 2 + lengths.len() + 3 * k, answer);
-        w = fed.watch;
+        mark = fed.mark;
         at = to;
         k += 1;
     }

@@ -237,6 +237,47 @@ fn walk_on(s: &[u8], profile: &[[u8; 6]], totals: &[usize], held: &mut [usize], 
     }
 }
 
+// The walk with a room for thousands of pointers, and for tens of thousands.
+fn walk_2048(s: &[u8], profile: &[[u8; 6]], totals: &[usize], d: usize) -> Walked
+    requires { ⌜ Walking (now s) (now totals) d ⌝ }
+    ensures { λ r. ⌜ WalkedIs (now (profile .entry)) (now (s .entry)) r ⌝ }
+{
+    let mut held = [0usize; 2048];
+    walk_on(s, profile, totals, &mut held, d)
+}
+
+fn walk_16384(s: &[u8], profile: &[[u8; 6]], totals: &[usize], d: usize) -> Walked
+    requires { ⌜ Walking (now s) (now totals) d ⌝ }
+    ensures { λ r. ⌜ WalkedIs (now (profile .entry)) (now (s .entry)) r ⌝ }
+{
+    let mut held = [0usize; 16384];
+    walk_on(s, profile, totals, &mut held, d)
+}
+
+// The walk of a product of many pointers. A large room is a large frame, which a call touches page by page. The compiler puts none into a
+// function that calls itself, and such a function into no other, so that products of few pointers have a small frame. It calls itself for each
+// million of pointers: a total has six digits, so it never does, which the compiler cannot know.
+fn walk_far(s: &[u8], profile: &[[u8; 6]], totals: &[usize], d: usize, millions: usize) -> Walked
+    requires { ⌜ Walking (now s) (now totals) d ⌝ }
+    ensures { λ r. ⌜ WalkedIs (now (profile .entry)) (now (s .entry)) r ⌝ }
+{
+    if millions == 0 {
+        if totals[3] <= 2048 {
+            return walk_2048(s, profile, totals, d);
+        }
+        return walk_16384(s, profile, totals, d);
+    }
+    let walked = walk_far(s, profile, totals, d, millions - 1);
+    let answer = walked.answer;
+    let stretch = walked.stretch;
+    let met = walked.met;
+    Walked {
+        answer,
+        stretch,
+        met,
+    }
+}
+
 // The room: a single pointer is in order, and needs none. It is made as large as the pointers ask, since it is cleared whether they are in
 // order or not.
 fn walk(s: &[u8], profile: &[[u8; 6]]) -> Walked
@@ -257,12 +298,8 @@ fn walk(s: &[u8], profile: &[[u8; 6]]) -> Walked
         let mut held = [0usize; 256];
         return walk_on(s, profile, &totals, &mut held, d);
     }
-    if totals[3] <= 2048 {
-        let mut held = [0usize; 2048];
-        return walk_on(s, profile, &totals, &mut held, d);
-    }
-    let mut held = [0usize; 16384];
-    walk_on(s, profile, &totals, &mut held, d)
+    let millions = totals[3] / 1000000;
+    walk_far(s, profile, &totals, d, millions)
 }
 
 // An answer that no walk gave.

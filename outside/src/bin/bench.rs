@@ -1,5 +1,6 @@
 //! Times of the judges on large products, of the watch, of the cut, of the join and of what else reads products: medians of runs taken in turn. The row
-//! listers fill the same rows.
+//! listers fill the same rows. A line to a row: what was measured, ours, what it is held against, their ratio in the same rounds (least to most), the bar.
+//! With DETAIL set each contender has a line of its own too.
 use outside::generate::{build, name_targets, set_number, Product, Rng, Shape, GROUPS};
 use outside::join::Rule;
 use outside::leaves::read_header;
@@ -92,22 +93,67 @@ fn rounds(runs: usize, times: usize, contenders: Vec<Contender>) -> Vec<Series> 
             }
         }
     }
-    for series in &all {
-        let v = series.sorted();
-        let (least, most) = (v[0], v[v.len() - 1]);
-        println!("  {:18} median {:10.1} us   least {least:10.1}   most {most:10.1}   runs {}", series.name, series.median(), v.len());
+    if std::env::var_os("DETAIL").is_some() {
+        for series in &all {
+            let v = series.sorted();
+            let (least, most) = (v[0], v[v.len() - 1]);
+            println!("  {:18} median {:10.1} us   least {least:10.1}   most {most:10.1}   runs {}", series.name, series.median(), v.len());
+        }
     }
     all
 }
 
-/// The one over the other, each run by that in the same round, where both are there.
-fn ratio(all: &[Series], name: &str, over: &str) {
+/// The bars that were set: how a row's name begins, who is measured, and the greatest ratio.
+const BARS: [(&str, &str, f64); 22] = [
+    ("even", "rows boundary", 1.2),
+    ("even", "arrival boundary", 0.8),
+    ("uneven", "rows boundary", 1.5),
+    ("small", "rows boundary", 1.5),
+    ("verdict, even", "verdict boundary", 1.0),
+    ("verdict, uneven", "verdict boundary", 1.2),
+    ("verdict, pointers in order", "verdict boundary", 1.2),
+    ("verdict, small", "verdict boundary", 1.5),
+    ("level0", "level0 boundary", 1.5),
+    ("month, one product", "report boundary", 1.5),
+    ("month", "report boundary", 1.2),
+    ("watch, in parts of 65536", "watch boundary", 1.0),
+    ("watch, in parts of 1500", "watch boundary", 1.0),
+    ("watch, in parts of 1", "watch boundary", 5.0),
+    ("replay, in parts of 65536", "replay boundary", 1.0),
+    ("replay, in parts of 1500", "replay boundary", 1.0),
+    ("replay, in parts of 1", "replay boundary", 5.0),
+    ("lookup, the 72 names", "lookup boundary", 2.0),
+    ("cut", "cut boundary", 1.3),
+    ("join", "join boundary", 1.5),
+    ("join", "join pass boundary", 1.1),
+    ("check", "check boundary", 1.4),
+];
+
+fn bar_of(what: &str, name: &str, over: &str) -> Option<f64> {
+    let beside = ["copy", "rows boundary", "arrival boundary"].contains(&over);
+    BARS.iter().find(|(begins, of, _)| !beside && what.starts_with(begins) && *of == name).map(|bar| bar.2)
+}
+
+/// A row: the one over the other, each run by that in the same round, where both are there.
+fn row(what: &str, all: &[Series], name: &str, over: &str) {
     let find = |name: &str| all.iter().find(|s| s.name == name);
     let (Some(one), Some(other)) = (find(name), find(over)) else { return };
     let figures = one.figures.iter().zip(&other.figures).map(|(a, b)| a / b).collect();
     let ratios = Series { name: "", figures };
     let v = ratios.sorted();
-    println!("  {name} / {over}: median {:.2}   least {:.2}   most {:.2}", ratios.median(), v[0], v[v.len() - 1]);
+    let (median, least, most) = (ratios.median(), v[0], v[v.len() - 1]);
+    let judged = bar_of(what, name, over).map_or(String::new(), |bar| format!("   bar {bar:.2} {}", if median <= bar { "met" } else { "MISSED" }));
+    let (ours, others) = (shown(one.median()), shown(other.median()));
+    println!("{what:46} {name:>18} {ours:>9}   {over:>17} {others:>9}   {median:6.2} ({least:.2} to {most:.2}){judged}");
+}
+
+/// Microseconds for people.
+fn shown(us: f64) -> String {
+    match us {
+        us if us >= 1e6 => format!("{:.2} s", us / 1e6),
+        us if us >= 1e3 => format!("{:.2} ms", us / 1e3),
+        us => format!("{us:.2} us"),
+    }
 }
 
 fn left_out(what: &str) -> bool {
@@ -124,7 +170,6 @@ fn measure(what: &str, make: impl Fn() -> Product, runs: usize, times: usize) {
     let rows = &RefCell::new(vec![[0; 7]; count]);
     let accepted = Ok(count as u64);
     let waiting = Arrival::Waiting { count: count as u64, end: bytes.len() as u64 };
-    println!("{what}: {} bytes, {count} records, {} pointers", bytes.len(), p.pointers.len());
     let all = rounds(
         runs,
         times,
@@ -138,14 +183,13 @@ fn measure(what: &str, make: impl Fn() -> Product, runs: usize, times: usize) {
         ],
     );
     assert!(rows.borrow().iter().zip(&p.starts).all(|(a, b)| a[0] as usize == *b));
-    ratio(&all, "rows boundary", "rows fast");
-    ratio(&all, "arrival boundary", "arrival fast");
+    row(what, &all, "rows boundary", "rows fast");
+    row(what, &all, "arrival boundary", "arrival fast");
 }
 
 /// The verdicts (request Fourteen), which keep no rows.
 fn measure_verdict(what: &str, p: &Product, runs: usize, times: usize) {
     let (bytes, count) = (&p.bytes, p.starts.len());
-    println!("{what}: {} bytes, {count} records, {} pointers", bytes.len(), p.pointers.len());
     let all = rounds(
         runs,
         times,
@@ -155,7 +199,7 @@ fn measure_verdict(what: &str, p: &Product, runs: usize, times: usize) {
             ("verdict boundary", Box::new(|| assert_eq!(boundary::verdict(black_box(bytes)), Ok(count as u64)))),
         ],
     );
-    ratio(&all, "verdict boundary", "verdict fast");
+    row(what, &all, "verdict boundary", "verdict fast");
 }
 
 /// The VIADRs and MDRs of a product as a Level 0 product has them.
@@ -178,7 +222,6 @@ fn measure_level0(what: &str, p: Product, runs: usize) {
     let (bytes, count) = (&p.bytes, p.starts.len());
     let rows = &RefCell::new(vec![[0; 7]; count]);
     let accepted = Ok(count as u64);
-    println!("{what}: {} bytes, {count} records, {} pointers", bytes.len(), p.pointers.len());
     let all = rounds(
         runs,
         1,
@@ -191,15 +234,13 @@ fn measure_level0(what: &str, p: Product, runs: usize) {
             ("level0 boundary", Box::new(|| assert_eq!(boundary::level0(black_box(bytes), &mut rows.borrow_mut()), accepted))),
         ],
     );
-    ratio(&all, "level0", "rows fast");
-    ratio(&all, "level0 boundary", "rows boundary");
-    ratio(&all, "level0 boundary", "level0");
+    row(what, &all, "level0 boundary", "rows boundary");
+    row(what, &all, "level0 boundary", "level0");
 }
 
 /// Products into a new report, one after the other, beside their verdicts.
 fn measure_month(what: &str, products: &[Product], runs: usize) {
     let records: usize = products.iter().map(|p| p.starts.len()).sum();
-    println!("{what}: {} products, {} bytes, {records} records", products.len(), products.iter().map(|p| p.bytes.len()).sum::<usize>());
     let reported = |add: fn(&mut month::Report, &[u8]) -> Result<Option<Refusal>, Refusal>| {
         let mut report = [0; month::NUMBERS];
         for p in products {
@@ -217,8 +258,7 @@ fn measure_month(what: &str, products: &[Product], runs: usize) {
             ("report boundary", Box::new(|| reported(boundary::report_add))),
         ],
     );
-    ratio(&all, "report", "verdicts fast");
-    ratio(&all, "report boundary", "report");
+    row(what, &all, "report boundary", "report");
 }
 
 /// A new watch is fed the bytes in parts of one length; the last answer.
@@ -237,7 +277,7 @@ fn watched_boundary(bytes: &[u8], length: usize) -> Arrival {
 fn measure_watch(p: &Product, length: usize, runs: usize, times: usize) {
     let bytes = &p.bytes;
     let waiting = Arrival::Waiting { count: p.starts.len() as u64, end: bytes.len() as u64 };
-    println!("watch: {} bytes, {} records, {} pointers, in parts of {length}", bytes.len(), p.starts.len(), p.pointers.len());
+    let what = &format!("watch, in parts of {length}");
     let all = rounds(
         runs,
         times,
@@ -250,9 +290,8 @@ fn measure_watch(p: &Product, length: usize, runs: usize, times: usize) {
             ("watch boundary", Box::new(|| assert_eq!(watched_boundary(bytes, length), waiting))),
         ],
     );
-    ratio(&all, "watch", "arrival fast");
-    ratio(&all, "watch boundary", "watch");
-    ratio(&all, "watch boundary", "arrival boundary");
+    row(what, &all, "watch boundary", "watch");
+    row(what, &all, "watch boundary", "arrival boundary");
 }
 
 /// The replays of a product in parts of one length, and the writers of its record, beside the watches that are fed the same parts.
@@ -264,7 +303,7 @@ fn measure_replay(p: &Product, length: usize, runs: usize, times: usize) {
     let room = &RefCell::new(vec![0; size]);
     assert_eq!(replay::record_arrival(lengths, bytes, &mut room.borrow_mut()), Ok(size));
     let record = &room.borrow().clone();
-    println!("replay: {} bytes, {} records, {} pointers, in parts of {length}", bytes.len(), p.starts.len(), p.pointers.len());
+    let what = &format!("replay, in parts of {length}");
     let all = rounds(
         runs,
         times,
@@ -284,10 +323,8 @@ fn measure_replay(p: &Product, length: usize, runs: usize, times: usize) {
         ],
     );
     assert!(*room.borrow() == *record);
-    ratio(&all, "replay", "watch");
-    ratio(&all, "replay boundary", "watch boundary");
-    ratio(&all, "replay boundary", "replay");
-    ratio(&all, "record boundary", "record");
+    row(what, &all, "replay boundary", "replay");
+    row(what, &all, "record boundary", "record");
 }
 
 /// So many records of 20,480 kinds, or of one kind.
@@ -317,7 +354,6 @@ fn measure_cut(what: &str, p: &Product, [first, last]: [Option<Time>; 2], runs: 
     let room = &RefCell::new(vec![0; bytes.len() + 27 * p.starts.len()]);
     let size = cut::cut(bytes, first, last, &mut room.borrow_mut()).unwrap();
     let result = &room.borrow()[..size].to_vec();
-    println!("{what}: {} bytes, {} records, cut to {size} bytes", bytes.len(), p.starts.len());
     let all = rounds(
         runs,
         1,
@@ -329,8 +365,8 @@ fn measure_cut(what: &str, p: &Product, [first, last]: [Option<Time>; 2], runs: 
         ],
     );
     assert!(room.borrow()[..size] == result[..]);
-    ratio(&all, "cut boundary", "cut");
-    ratio(&all, "cut boundary", "copy");
+    row(what, &all, "cut boundary", "cut");
+    row(what, &all, "cut boundary", "copy");
 }
 
 /// The checks of what request Three writes with the window, which is a cut, or of one whose last MDR has another last byte.
@@ -347,7 +383,6 @@ fn measure_check(what: &str, p: &Product, [first, last]: [Option<Time>; 2], yes:
     }
     let (cut, right) = (&room, check::check(original, &room));
     assert_eq!(right == Ok(None), yes);
-    println!("{what}: {} bytes, {} records, against a cut of {size} bytes", original.len(), p.starts.len());
     let all = rounds(
         runs,
         1,
@@ -358,7 +393,7 @@ fn measure_check(what: &str, p: &Product, [first, last]: [Option<Time>; 2], yes:
             ("check boundary", Box::new(|| assert_eq!(boundary::check_cut(black_box(original), cut), right))),
         ],
     );
-    ratio(&all, "check boundary", "check");
+    row(what, &all, "check boundary", "check");
 }
 
 /// A product whose MDRs all have the same header and differ in their last byte alone, but for one in two that is as the one before.
@@ -394,7 +429,6 @@ fn measure_join(what: &str, make: impl Fn() -> Product, runs: usize, times: usiz
     let room = &RefCell::new(vec![0; 2 * first.len() + 27 * p.starts.len()]);
     let size = join::join(Rule::Identical, first, second, &mut room.borrow_mut()).unwrap();
     let result = &room.borrow()[..size].to_vec();
-    println!("{what}: {} bytes and as many, {} records each, joined to {size} bytes", first.len(), p.starts.len());
     let all = rounds(
         runs,
         times,
@@ -411,9 +445,8 @@ fn measure_join(what: &str, make: impl Fn() -> Product, runs: usize, times: usiz
         ],
     );
     assert!(room.borrow()[..size] == result[..]);
-    ratio(&all, "join boundary", "join");
-    ratio(&all, "join pass boundary", "join boundary");
-    ratio(&all, "join boundary", "copy");
+    row(what, &all, "join boundary", "join");
+    row(what, &all, "join pass boundary", "join boundary");
 }
 
 /// Half of the records GEADRs, half MDRs.
@@ -422,9 +455,74 @@ fn half_global(records: usize, size: usize) -> Product {
     build(&mut Rng(15), &Shape { first_version: 2, sphr: Some(5000), pointers: 64, others, sorted: true, rest: 0 })
 }
 
+/// How the pointers of a hostile product name its records, which are as short as may be.
+#[cfg(feature = "boundary")]
+#[derive(Clone, Copy, Debug)]
+enum Order {
+    Shuffled,
+    Descending,
+    Cycling,
+}
+
+/// So many pointers before so many records.
+#[cfg(feature = "boundary")]
+fn hostile(pointers: usize, records: usize, order: Order) -> Product {
+    let mut p = large(17, records, 20, pointers, true);
+    let targets = p.starts[1 + pointers..].to_vec();
+    let mut places: Vec<usize> = (0..pointers).map(|k| k % records).collect();
+    let mut rng = Rng(18);
+    match order {
+        Order::Shuffled => (1..pointers).rev().for_each(|k| places.swap(k, rng.below(k + 1))),
+        Order::Descending => places.reverse(),
+        Order::Cycling => {}
+    }
+    for (s, k) in p.pointers.iter().zip(places) {
+        p.bytes[s + 23..s + 27].copy_from_slice(&(targets[k] as u32).to_be_bytes());
+    }
+    name_targets(&mut p);
+    p
+}
+
+/// The greatest seconds that any product may take any of the judges and writers.
+#[cfg(feature = "boundary")]
+const HOSTILE_BAR: f64 = 0.5;
+
+/// Every judge and writer that walks a product, once each and the least of three; the slowest of them is the row.
+#[cfg(feature = "boundary")]
+fn measure_hostile(pointers: usize, records: usize, order: Order) {
+    let p = to_follow_itself(hostile(pointers, records, order));
+    let (bytes, again) = (&p.bytes, &p.bytes.clone());
+    let count = Ok(p.starts.len() as u64);
+    let rows = &RefCell::new(vec![[0; 7]; p.starts.len()]);
+    let room = &RefCell::new(vec![0; 2 * bytes.len() + 27 * p.starts.len()]);
+    let all = [Some(Time { day: 0, milli: 0 }), Some(Time { day: 65_535, milli: 86_399_999 })];
+    let figures = rounds(
+        3,
+        1,
+        vec![
+            ("verdict fast", Box::new(|| assert_eq!(fast::verdict(black_box(bytes)), count))),
+            ("verdict", Box::new(|| assert_eq!(boundary::verdict(black_box(bytes)), count))),
+            ("rows", Box::new(|| assert_eq!(boundary::rows(black_box(bytes), &mut rows.borrow_mut()), count))),
+            ("arrival", Box::new(|| assert!(matches!(boundary::arrival(black_box(bytes)), Arrival::Waiting { .. })))),
+            ("report", Box::new(|| assert_eq!(boundary::report_add(&mut [0; month::NUMBERS], black_box(bytes)), Ok(None)))),
+            ("cut", Box::new(|| assert!(boundary::cut_into(black_box(bytes), all[0], all[1], &mut room.borrow_mut()).is_ok()))),
+            ("join", Box::new(|| assert!(boundary::join_into(black_box(bytes), again, &mut room.borrow_mut()).is_ok_and(|n| n > 0)))),
+        ],
+    );
+    let least = |series: &Series| series.sorted()[0] / 1e6;
+    let (slowest, most) = figures[1..].iter().map(|series| (series.name, least(series))).max_by(|a, b| a.1.total_cmp(&b.1)).unwrap();
+    let judged = if most <= HOSTILE_BAR { "met" } else { "MISSED" };
+    println!(
+        "{:46} verdict {:.4} s, Rust {:.4} s; slowest {slowest} {most:.4} s   bar {HOSTILE_BAR:.2} s {judged}",
+        format!("hostile, {pointers} {order:?} over {records}"),
+        least(&figures[1]),
+        least(&figures[0])
+    );
+}
+
 /// Lookups of a sort of names.
 fn measure_lookup(what: &str, names: &[Vec<u8>], runs: usize) {
-    println!("lookup, {what}: {} names, a thousand times each (72,000 lookups)", names.len());
+    let what = &format!("lookup, {what}, {} names a thousand times", names.len());
     let all = rounds(
         runs,
         1,
@@ -434,7 +532,7 @@ fn measure_lookup(what: &str, names: &[Vec<u8>], runs: usize) {
             ("lookup boundary", Box::new(|| looked_up(names, |name| boundary::raw::field_named(name)[2] as usize))),
         ],
     );
-    ratio(&all, "lookup boundary", "match");
+    row(what, &all, "lookup boundary", "match");
 }
 
 fn looked_up(names: &[Vec<u8>], find: impl Fn(&[u8]) -> usize) {
@@ -471,7 +569,7 @@ fn measure_uth(segments: u32, blocks: u32, runs: usize, times: usize) {
     let bytes = &humidity(segments, blocks);
     let n = (segments * blocks) as usize;
     let rooms = &RefCell::new((vec![[0; 4]; n], vec![[0.0; 2]; n]));
-    println!("uth: {} bytes, {segments} segments of {blocks} blocks", bytes.len());
+    let what = &format!("uth, {segments} segments of {blocks} blocks");
     let all = rounds(
         runs,
         times,
@@ -481,7 +579,7 @@ fn measure_uth(segments: u32, blocks: u32, runs: usize, times: usize) {
             ("uth boundary", Box::new(|| assert_eq!(into(rooms, |b, v| boundary::read_uth(black_box(bytes), b, v)), Ok(n)))),
         ],
     );
-    ratio(&all, "uth boundary", "uth");
+    row(what, &all, "uth boundary", "uth");
 }
 
 fn into<T>(rooms: &RefCell<(Vec<[u32; 4]>, Vec<[f32; 2]>)>, reader: impl FnOnce(&mut [[u32; 4]], &mut [[f32; 2]]) -> T) -> T {
@@ -502,7 +600,7 @@ fn main() {
     // The other path: targets that descend.
     measure("scattered", || large(10, 20_000, 335, 20_000, false), runs, 1);
     if !left_out("verdict") {
-        measure_verdict("verdict", &even(64, false), runs, 1);
+        measure_verdict("verdict, even", &even(64, false), runs, 1);
         measure_verdict("verdict, uneven", &even(64, true), runs, 1);
         measure_verdict("verdict, long", &large(8, 300, 100 << 10, 0, true), runs, 100);
         measure_verdict("verdict, pointers in order", &large(9, 20_000, 335, 20_000, true), runs, 1);
@@ -511,8 +609,18 @@ fn main() {
         measure_verdict("verdict, 499,999 pointers in no order", &large(16, 499_999, 20, 499_999, false), runs, 1);
         measure_verdict("verdict, small", &large(11, 0, 20, 0, true), runs, 1000);
     }
+    #[cfg(feature = "boundary")]
+    if !left_out("hostile") {
+        for pointers in [20_000, 100_000, 499_999] {
+            measure_hostile(pointers, pointers, Order::Shuffled);
+            measure_hostile(pointers, pointers, Order::Descending);
+        }
+        for (pointers, records) in [(100_000, 390), (400_000, 1_560), (995_000, 3_880), (998_000, 390)] {
+            measure_hostile(pointers, records, Order::Cycling);
+        }
+    }
     if !left_out("level0") {
-        measure_level0("level0", even(64, false), runs);
+        measure_level0("level0, even", even(64, false), runs);
         measure_level0("level0, uneven", even(64, true), runs);
     }
     if !left_out("month") {
@@ -527,11 +635,14 @@ fn main() {
         // The main header a byte at a time.
         let p = large(12, 0, 20, 0, true);
         measure_watch(&p, 1, runs, 100);
+        let p = even_of(1 << 20, 3_000, 64, false);
+        measure_watch(&p, 1, runs, 1);
     }
     if !left_out("replay") {
         let p = even(64, false);
         measure_replay(&p, 64 << 10, runs, 1);
         measure_replay(&p, 1500, runs, 1);
+        measure_replay(&even_of(1 << 20, 3_000, 64, false), 1, runs, 1);
     }
     if !left_out("lookup") {
         for (what, names) in &lookup::names() {

@@ -43,11 +43,8 @@ walk-on-requires c κs = walking (c .before .before .before .before)
 walk-on-requires-2 : tie.Need-walk-on-requires-2
 walk-on-requires-2 c κs = walking (c .before .before .before .before .before)
 
-walk-on-requires-3 : tie.Need-walk-on-requires-3
-walk-on-requires-3 c κs = walking (c .before .before .before .before .before .before)
-
-walk-on-requires-4 : tie.Need-walk-on-requires-4
-walk-on-requires-4 c κs = walking (c .before .before .before .before .before .before)
+walk-far-requires : tie.Need-walk-far-requires
+walk-far-requires c κs = walking (c .before .before .before .before)
 
 pub walk-spec : {M : Type 1} → statement M
 walk-spec =
@@ -72,10 +69,5 @@ walk-spec =
     (λ c. search needs)
     (λ c. search needs)
     (λ c. search needs)
-    (λ c. search needs)
-    walk-on-requires-3
-    (λ c. search needs)
-    (λ c. search needs)
-    (λ c. search needs)
-    walk-on-requires-4
+    walk-far-requires
     (λ c. search needs))

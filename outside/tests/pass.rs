@@ -6,6 +6,7 @@ mod joined;
 use joined::{check_result, join_in, whole, Written};
 use outside::generate::{follower, hurt, meet, near_limit, product, put_own_times, unlike, Product, Rng};
 use outside::join::Rule;
+use outside::lines::STARTS;
 use outside::records::{of_classes, records};
 use outside::seen::{cases, Seen};
 use outside::vectors::written;
@@ -13,6 +14,8 @@ use outside::{fast, vectors};
 
 /// How often each pass of the vectors is paired anew.
 const PAIRINGS: usize = 20;
+/// INSTRUMENT_ID.
+const INSTRUMENT_LINE: usize = 5;
 
 /// The granules, which follow each other, joined two and two at random until one is left; or the refusal that stands in the way.
 fn paired(rng: &mut Rng, granules: &[Vec<u8>]) -> (Written, Vec<u8>) {
@@ -129,7 +132,7 @@ fn generated_pairs() {
     plain.complete(&["written"], &[18, 26, 27, 28]);
 }
 
-/// Three to eight granules that follow each other.
+/// Three to eight granules that follow each other; now and then the last is of another instrument.
 fn pass(rng: &mut Rng) -> Vec<Product> {
     let mut all = vec![product(rng, 0).0];
     for _ in 0..2 + rng.below(6) {
@@ -137,13 +140,13 @@ fn pass(rng: &mut Rng) -> Vec<Product> {
         if !rng.one_in(8) {
             meet(rng, all.last_mut().unwrap(), &mut next);
         }
-        if rng.one_in(50) {
-            unlike(rng, &mut next);
-        }
         all.push(next);
     }
     for p in &mut all {
         put_own_times(rng, p);
+    }
+    if rng.one_in(20) {
+        all.last_mut().unwrap().bytes[STARTS[INSTRUMENT_LINE] + 32] = b'#';
     }
     all
 }

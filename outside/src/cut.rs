@@ -86,20 +86,14 @@ fn survey(bytes: &[u8], window: (u64, u64)) -> Survey {
 
 /// Whole seconds, as a time of 15 bytes has them.
 fn second_text(time: Option<u64>) -> [u8; 15] {
-    let Some(time) = time else { return *b"xxxxxxxxxxxxxxZ" };
+    let Some(time) = time else {
+        return *b"xxxxxxxxxxxxxxZ";
+    };
     let (day, milli) = ((time >> 32) as u16, time as u32);
     let date = date_of(day);
     let second = (milli / 1000).min(86_399);
     let beyond = milli / 1000 - second;
-    let text = format!(
-        "{:04}{:02}{:02}{:02}{:02}{:02}Z",
-        date.year,
-        date.month,
-        date.day,
-        second / 3600,
-        second / 60 % 60,
-        second % 60 + beyond
-    );
+    let text = format!("{:04}{:02}{:02}{:02}{:02}{:02}Z", date.year, date.month, date.day, second / 3600, second / 60 % 60, second % 60 + beyond);
     text.as_bytes().try_into().unwrap()
 }
 
@@ -182,7 +176,9 @@ fn put_kept(bytes: &[u8], window: (u64, u64), room: &mut [u8]) {
 
 /// The bytes written. A refusal writes nothing.
 pub fn cut(bytes: &[u8], first: Option<Time>, last: Option<Time>, room: &mut [u8]) -> Result<usize, Refusal> {
-    let Some(window) = ends(first, last) else { return Err(Refusal { number: 25, place: 0 }) };
+    let Some(window) = ends(first, last) else {
+        return Err(Refusal { number: 25, place: 0 });
+    };
     fast::verdict(bytes)?;
     let found = survey(bytes, window);
     let pointers = found.counts[3] as usize;

@@ -53,8 +53,7 @@ pub struct Shape {
 pub const DAY_ENDS: [u32; 4] = [86_399_999, 86_400_000, 86_400_999, 86_401_000];
 
 /// Hour, minute and second: a leap second, and what is like it.
-pub const LEAP_LIKE: [(u8, u8, u8); 7] =
-    [(23, 59, 59), (23, 59, 60), (23, 59, 60), (23, 59, 61), (22, 59, 60), (23, 58, 60), (0, 0, 60)];
+pub const LEAP_LIKE: [(u8, u8, u8); 7] = [(23, 59, 59), (23, 59, 60), (23, 59, 60), (23, 59, 61), (22, 59, 60), (23, 58, 60), (0, 0, 60)];
 
 /// A day that ends in a leap second, or the day before or after it.
 pub fn day_near_leap(rng: &mut Rng) -> u16 {
@@ -265,7 +264,13 @@ pub fn build(rng: &mut Rng, shape: &Shape) -> Product {
 /// A small shape: 0 to 40 records after the main header.
 pub fn shape(rng: &mut Rng) -> Shape {
     let most = rng.pick(&[20, 21, 40, 60, 400]);
-    let size = |rng: &mut Rng| if most == 20 || rng.one_in(3) { 20 } else { 20 + rng.below(most - 19) };
+    let size = |rng: &mut Rng| {
+        if most == 20 || rng.one_in(3) {
+            20
+        } else {
+            20 + rng.below(most - 19)
+        }
+    };
     let sphr = if rng.one_in(3) { Some(size(rng)) } else { None };
     let n = rng.pick(&[0, 1, 2, 5, 12, 27]);
     let n = rng.below(n + 1);
@@ -614,7 +619,9 @@ pub fn hurt(rng: &mut Rng, p: &mut Product, turn: usize) -> Made {
 fn section(p: &Product, classes: std::ops::RangeInclusive<u8>) -> std::ops::Range<usize> {
     let ends = p.starts[1..].iter().copied().chain([p.bytes.len()]);
     let mut found = p.starts.iter().copied().zip(ends).filter(|(s, _)| classes.contains(&p.bytes[*s]));
-    let Some((start, end)) = found.next() else { return 0..0 };
+    let Some((start, end)) = found.next() else {
+        return 0..0;
+    };
     start..found.last().map_or(end, |last| last.1)
 }
 
@@ -655,7 +662,9 @@ fn put_next_start(rng: &mut Rng, before: &Product, p: &mut Product) {
     let defined = |bytes: &[u8], at: usize| bytes[at..at + 6] != [0xff; 6];
     let last = before.starts.iter().rev().find(|s| before.bytes[**s] == 8 && defined(&before.bytes, **s + 14));
     let first = p.starts.iter().find(|s| p.bytes[**s] == 8 && defined(&p.bytes, **s + 8));
-    let (Some(last), Some(first)) = (last, first) else { return };
+    let (Some(last), Some(first)) = (last, first) else {
+        return;
+    };
     let day = u16::from_be_bytes(before.bytes[last + 14..last + 16].try_into().unwrap());
     let milli = u32_at(&before.bytes, last + 16);
     let start = match rng.below(6) {
@@ -724,7 +733,9 @@ fn before(t: Time) -> Time {
 pub fn meet(rng: &mut Rng, first: &mut Product, second: &mut Product) {
     let last = first.starts.iter().rev().find(|s| first.bytes[**s] == 8);
     let next = second.starts.iter().find(|s| second.bytes[**s] == 8);
-    let (Some(last), Some(next)) = (last, next) else { return };
+    let (Some(last), Some(next)) = (last, next) else {
+        return;
+    };
     let any = rng.below(65_536) as u16;
     let day = if rng.one_in(2) { day_near_leap(rng) } else { any };
     let end = leap::last_milli(day);

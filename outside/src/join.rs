@@ -94,7 +94,9 @@ pub(crate) fn value(bytes: &[u8], line: usize) -> &[u8] {
 /// A count or duration of both: undefined where either is, and the refusal where it does not fit.
 fn sum(line: usize, first: &[u8], second: &[u8]) -> Result<Option<u64>, Refusal> {
     let [a, b] = [first, second].map(|bytes| fast::number(value(bytes, line), false));
-    let (Some(a), Some(b)) = (a, b) else { return Ok(None) };
+    let (Some(a), Some(b)) = (a, b) else {
+        return Ok(None);
+    };
     if a + b >= 10u64.pow(LINES[line].1 as u32) {
         return Err(Refusal { number: 28, place: 0 });
     }

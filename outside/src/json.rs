@@ -116,7 +116,9 @@ impl fmt::Display for Json {
         let join = |all: Vec<String>| all.join(",");
         match self {
             Json::Word(text) | Json::Text(text) => write!(f, "{text}"),
-            Json::List(items) => write!(f, "[{}]", join(items.iter().map(Json::to_string).collect())),
+            Json::List(items) => {
+                write!(f, "[{}]", join(items.iter().map(Json::to_string).collect()))
+            }
             Json::Map(entries) => write!(f, "{{{}}}", join(entries.iter().map(|(k, v)| format!("{k}:{v}")).collect())),
         }
     }

@@ -40,7 +40,9 @@ fn sections(record: &[u8]) -> Option<(&[[u8; 4]], &[[u8; 12]])> {
 
 /// The first part whose answer is not as the record has it, counted from 0.
 pub fn replay(record: &[u8], product: &[u8]) -> Result<Option<u64>, Refusal> {
-    let Some((lengths, answers)) = sections(record) else { return refused(37) };
+    let Some((lengths, answers)) = sections(record) else {
+        return refused(37);
+    };
     if lengths.len() != answers.len() {
         return refused(38);
     }
@@ -100,7 +102,9 @@ pub mod plainly {
         let whole = record.len() % 4 == 0;
         let n = words.first().copied().filter(|_| whole);
         let m = n.and_then(|n| words.get(1 + n as usize)).copied();
-        let (Some(n), Some(m)) = (n, m) else { return refused(37) };
+        let (Some(n), Some(m)) = (n, m) else {
+            return refused(37);
+        };
         if record.len() as u64 != 8 + 4 * n + 12 * m {
             return refused(37);
         }

@@ -52,7 +52,9 @@ pub fn two() -> Vec<Judged> {
     let products = request_products();
     let mut all = Vec::new();
     for case in cases("requests/two.jsonl", 513) {
-        let Some(n) = case.get("product") else { continue };
+        let Some(n) = case.get("product") else {
+            continue;
+        };
         let changes = case.get("at").unwrap().list().iter().map(|at| (at.list()[0].number() as usize, arrival(&at.list()[1..])));
         all.push(Judged {
             name: case.get("name").unwrap().to_string(),

@@ -134,7 +134,9 @@ fn every_vector() {
             prefixes += 1;
             if last != Some(a) {
                 ours.push(match a {
-                    Arrival::Refused { number, place } => format!("at {l} refused {number} {place}"),
+                    Arrival::Refused { number, place } => {
+                        format!("at {l} refused {number} {place}")
+                    }
                     Arrival::Waiting { count, end } => format!("at {l} waiting {count} {end}"),
                 });
             }

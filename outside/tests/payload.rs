@@ -1,6 +1,7 @@
 //! Request Eight: products that differ in payload alone, the bytes beyond the first 20 of records of classes 2 and 4 to 8, get the same answers of
 //! every reader, whole and part by part; a cut of the one is the cut of the other but for payload, and so is a join. With the feature, so it is at the boundary.
-use outside::generate::{build, follower, part, product, shape, Product, Rng};
+use outside::generate::{build, follower, part, product, put_own_times, shape, Product, Rng};
+use outside::join::{join, Rule};
 use outside::leaves::{self, read_header};
 use outside::lines::MAIN_SIZE;
 use outside::seen::cases;
@@ -122,7 +123,8 @@ fn all_answers(bytes: &[u8], asked: &Asked) -> Vec<String> {
 
 /// Other bytes in the payload: all of it, some of it, one byte, or the bytes at its edges.
 fn change(rng: &mut Rng, bytes: &mut [u8], places: &[usize]) {
-    let edges: Vec<usize> = records(bytes).into_iter().filter(|(class, r)| *class != 3 && r.len() > 20).flat_map(|(_, r)| [r.start + 20, r.end - 1]).collect();
+    let edges: Vec<usize> =
+        records(bytes).into_iter().filter(|(class, r)| *class != 3 && r.len() > 20).flat_map(|(_, r)| [r.start + 20, r.end - 1]).collect();
     let chosen: Vec<usize> = match rng.below(4) {
         0 => places.to_vec(),
         1 => places.iter().copied().filter(|_| rng.one_in(3)).collect(),
@@ -197,7 +199,8 @@ fn joins() {
         }
         let (second, first) = (after.bytes, before.bytes);
         let right = joins_of(&first, &second);
-        let free = |bytes: &[u8]| records(bytes).into_iter().filter(|(class, _)| *class >= 6).flat_map(|(_, r)| r.start + 20..r.end).collect::<Vec<_>>();
+        let free =
+            |bytes: &[u8]| records(bytes).into_iter().filter(|(class, _)| *class >= 6).flat_map(|(_, r)| r.start + 20..r.end).collect::<Vec<_>>();
         let mut others = [first.clone(), second.clone()];
         for bytes in &mut others {
             for j in free(bytes) {
@@ -213,6 +216,8 @@ fn joins() {
             unlike += told.iter().filter(|answer| **answer == Err(Refusal { number: 26, place: 0 })).count();
         }
     }
-    println!("{written} joins written and {refused} refused, before and after alike; {unlike} refused with 26 where a fixed record's payload was changed");
+    println!(
+        "{written} joins written and {refused} refused, before and after alike; {unlike} refused with 26 where a fixed record's payload was changed"
+    );
     assert!(written > refused && unlike > 0);
 }

@@ -23,32 +23,33 @@ extern "C" {
 
     #[rustfmt::skip]
     fn wl_cut(
-        bytes: *const u8, len: usize, first_defined: u8, first_day: u16, first_milli: u32, last_defined: u8, last_day: u16, last_milli: u32,
-        room: *mut u8, room_len: usize, answer: &mut [u64; 4],
+        bytes: *const u8,
+        len: usize,
+        first_defined: u8,
+        first_day: u16,
+        first_milli: u32,
+        last_defined: u8,
+        last_day: u16,
+        last_milli: u32,
+        room: *mut u8,
+        room_len: usize,
+        answer: &mut [u64; 4],
     );
     #[rustfmt::skip]
-    fn wl_join(
-        first: *const u8, first_len: usize, second: *const u8, second_len: usize, room: *mut u8, room_len: usize, answer: &mut [u64; 4],
-    );
+    fn wl_join(first: *const u8, first_len: usize, second: *const u8, second_len: usize, room: *mut u8, room_len: usize, answer: &mut [u64; 4]);
     #[rustfmt::skip]
-    fn wl_join_pass(
-        first: *const u8, first_len: usize, second: *const u8, second_len: usize, room: *mut u8, room_len: usize, answer: &mut [u64; 4],
-    );
+    fn wl_join_pass(first: *const u8, first_len: usize, second: *const u8, second_len: usize, room: *mut u8, room_len: usize, answer: &mut [u64; 4]);
     fn wl_check_cut(original: *const u8, len: usize, cut: *const u8, cut_len: usize, answer: &mut [u64; 4]);
 
     fn wl_replay(record: *const u8, len: usize, product: *const u8, product_len: usize, answer: &mut [u64; 4]);
     #[rustfmt::skip]
-    fn wl_record_arrival(
-        lengths: *const u32, count: usize, product: *const u8, len: usize, room: *mut u8, room_len: usize, answer: &mut [u64; 4],
-    );
+    fn wl_record_arrival(lengths: *const u32, count: usize, product: *const u8, len: usize, room: *mut u8, room_len: usize, answer: &mut [u64; 4]);
 
     fn wl_report_add(report: &mut [u64; 38], bytes: *const u8, len: usize, answer: &mut [u64; 4]);
     fn wl_report_merge(report: &mut [u64; 38], other: &[u64; 38], answer: &mut [u64; 4]);
 
     #[rustfmt::skip]
-    fn wl_uth(
-        bytes: *const u8, len: usize, blocks: *mut [u32; 4], room: usize, values: *mut [f32; 2], values_room: usize, answer: &mut [u64; 4],
-    );
+    fn wl_uth(bytes: *const u8, len: usize, blocks: *mut [u32; 4], room: usize, values: *mut [f32; 2], values_room: usize, answer: &mut [u64; 4]);
 
     fn wl_is_date(year: u16, month: u8, day: u8, answer: &mut [u64; 4]);
     fn wl_date_of(day: u16, answer: &mut [u64; 6]);
@@ -247,16 +248,12 @@ pub fn cut(bytes: &[u8], first: (u8, u16, u32), last: (u8, u16, u32), room: &mut
 
 pub fn join(first: &[u8], second: &[u8], room: &mut [u8]) -> [u64; 4] {
     // SAFETY: as above.
-    answered(|answer| unsafe {
-        wl_join(first.as_ptr(), first.len(), second.as_ptr(), second.len(), room.as_mut_ptr(), room.len(), answer)
-    })
+    answered(|answer| unsafe { wl_join(first.as_ptr(), first.len(), second.as_ptr(), second.len(), room.as_mut_ptr(), room.len(), answer) })
 }
 
 pub fn join_pass(first: &[u8], second: &[u8], room: &mut [u8]) -> [u64; 4] {
     // SAFETY: as above.
-    answered(|answer| unsafe {
-        wl_join_pass(first.as_ptr(), first.len(), second.as_ptr(), second.len(), room.as_mut_ptr(), room.len(), answer)
-    })
+    answered(|answer| unsafe { wl_join_pass(first.as_ptr(), first.len(), second.as_ptr(), second.len(), room.as_mut_ptr(), room.len(), answer) })
 }
 
 pub fn check_cut(original: &[u8], cut: &[u8]) -> [u64; 4] {

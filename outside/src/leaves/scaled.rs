@@ -97,7 +97,9 @@ pub fn round(number: Option<Scaled>, decimals: i8) -> Result<Option<i64>, Refusa
     if !is_decimals(decimals) {
         return refused(21, 0);
     }
-    let Some(number) = number else { return Ok(None) };
+    let Some(number) = number else {
+        return Ok(None);
+    };
     if !is_scale(number.scale) {
         return refused(21, 0);
     }
@@ -114,7 +116,9 @@ pub(super) fn quotient(n: i64, s: i8) -> f64 {
 
 /// Undefined, then the scale, then the size (E12): of I, or of the product where s is below 0, which is whole.
 pub fn reading(number: Option<Scaled>) -> Result<Reading, Refusal> {
-    let Some(number) = number else { return Ok(Reading::Missing) };
+    let Some(number) = number else {
+        return Ok(Reading::Missing);
+    };
     if !is_scale(number.scale) {
         return refused(21, 0);
     }

@@ -20,7 +20,9 @@ pub fn read_time(bytes: &[u8], at: usize) -> Result<Option<Time>, Refusal> {
 }
 
 pub(super) fn time_bytes(time: Option<Time>) -> Result<Vec<u8>, Refusal> {
-    let Some(time) = time else { return Ok(vec![0xff; 6]) };
+    let Some(time) = time else {
+        return Ok(vec![0xff; 6]);
+    };
     let time = checked(time)?;
     Ok([&time.day.to_be_bytes()[..], &time.milli.to_be_bytes()[..]].concat())
 }
@@ -31,7 +33,9 @@ pub fn write_time(room: &mut [u8], time: Option<Time>) -> Result<usize, Refusal>
 
 /// By day, then millisecond; 21 where either is undefined or invalid (E6).
 pub fn time_order(time: Option<Time>, other: Option<Time>) -> Result<Ordering, Refusal> {
-    let (Some(a), Some(b)) = (time, other) else { return refused(21, 0) };
+    let (Some(a), Some(b)) = (time, other) else {
+        return refused(21, 0);
+    };
     let (a, b) = (checked(a)?, checked(b)?);
     Ok((a.day, a.milli).cmp(&(b.day, b.milli)))
 }
@@ -135,7 +139,9 @@ pub fn time_text(room: &mut [u8], time: Option<Time>) -> Result<usize, Refusal> 
 }
 
 pub fn text_time(bytes: &[u8], at: usize) -> Result<Option<Time>, Refusal> {
-    let Some(m) = read_moment(part(bytes, at, 18)?)? else { return Ok(None) };
+    let Some(m) = read_moment(part(bytes, at, 18)?)? else {
+        return Ok(None);
+    };
     let day = day_number(Date { year: m.year, month: m.month, day: m.day })?;
     let seconds = (m.hour as u32 * 60 + m.minute as u32) * 60 + m.second as u32;
     Ok(Some(Time { day, milli: seconds * 1000 + m.milli as u32 }))

@@ -51,7 +51,9 @@ fn word_reading(reading: Reading) -> String {
 }
 
 fn word_point(point: Option<GroundPoint>) -> String {
-    let Some(p) = point else { return "[missing]".into() };
+    let Some(p) = point else {
+        return "[missing]".into();
+    };
     format!("[point,{},{}]", word_f64(p.latitude), word_f64(p.longitude))
 }
 

@@ -194,17 +194,8 @@ fn field() {
 }
 
 /// Spellings that a point may turn on.
-const SPELT: [&[u8; 11]; 9] = [
-    b"         -0",
-    b"         +0",
-    b"00000000000",
-    b"-9999999999",
-    b"99999999999",
-    b"xxxxxxxxxxx",
-    b"        +90",
-    b"      -1000",
-    b"          7",
-];
+const SPELT: [&[u8; 11]; 9] =
+    [b"         -0", b"         +0", b"00000000000", b"-9999999999", b"99999999999", b"xxxxxxxxxxx", b"        +90", b"      -1000", b"          7"];
 
 fn bits(point: Option<GroundPoint>) -> Option<[u64; 2]> {
     point.map(|p| [p.latitude.to_bits(), p.longitude.to_bits()])

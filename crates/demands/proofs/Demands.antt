@@ -1,5 +1,5 @@
 -- THE MISSION'S THREE DEMANDS hold (specs/Demands.antt has them beside its sentences). Demand 1 by the numbers of the table's rows; demand 2 is that of
--- Accepted; demand 3 by the laws of every table (crate `tables`) at the judge's, and by the records' numbers (Counting). Assumes nothing. The
+-- Accepted and Verdict; demand 3 by the laws of every table (crate `tables`) at the judge's, and by the records' numbers (Counting). Assumes nothing. The
 -- other entries' refusals and lent rooms are fixed by their own promises (docs/PROMISES.md).
 use Prim.Native.Nat.{ℕ, _≤_, _<_}
 use native.Mathlib.Omega.{arith}
@@ -15,7 +15,7 @@ use Rattle.judge.specs.Table.{table, Clean, Given, Judged}
 use Rattle.judge.specs.declared.arrival.Arrival.{Arrival}
 use Rattle.judge.specs.declared.arrival.Arrival.the-variants.{Waiting, Refused}
 use Rattle.finish.specs.Rows.{startOf}
-use Rattle.finish.specs.Finish.{Refuses, Unfit, faulty, short, no-room, FinishedIs}
+use Rattle.finish.specs.Finish.{Refuses, Unfit, faulty, short, no-room, VerdictIs, FinishedIs}
 use Rattle.finish.specs.declared.Finished.the-variants as F
 use Rattle.judge.proofs.WayLaws.{numbers}
 use Rattle.judge.proofs.Local.{lawful}
@@ -23,6 +23,7 @@ use Rattle.judge.proofs.Covering.{whole-come}
 use Rattle.demands.specs.Demands.{start, Grows, Comes, Demand1, Demand2, Demand3For, Demand3}
 use Rattle.demands.proofs.Prefix.{unique-arrival, refusal-kept, refusal-final}
 use Rattle.demands.proofs.Accepted.{accepted-meets, meets-accepted}
+use Rattle.demands.proofs.Verdict.{verdict-product, product-verdict, final-verdict, final-extent}
 use Rattle.demands.proofs.Counting.{counts-are, grows, ends-whole, indexed}
 
 -- ---- DEMAND 1
@@ -48,7 +49,7 @@ demand-1 = record {
 
 -- ---- DEMAND 2
 pub demand-2 : Demand2
-demand-2 = record { only = λ a rows rows′ c f. accepted-meets f; every = meets-accepted }
+demand-2 = record { verdict-only = verdict-product; verdict-every = product-verdict; only = λ a rows rows′ c f. accepted-meets f; every = meets-accepted }
 
 -- ---- DEMAND 3
 -- an arrival that shows no fault is not refused
@@ -71,19 +72,23 @@ comes X law Says clean one a r g = record {
     at-prefix : {d : List ℕ} → d ≡ a → T.Gives X d (fault (r .number) (r .place) (g .shown))
     at-prefix e = rw e (g .gives)
 
+accepted-verdict : (a t : List ℕ) (c e n : ℕ) → Judged a (Waiting c e) → VerdictIs (a ++ t) (F.Accepted n) → Grows a c e (a ++ t) n (length (a ++ t))
+accepted-verdict a t c e n o (k, v) = rw (v .ends ∙ sym (whole-come k)) at (grows o t (ends-whole k v))
+
 accepted :
     (a t : List ℕ) (rows rows′ : List (List ℕ)) (c e n : ℕ) → Judged a (Waiting c e) → FinishedIs (a ++ t) rows (F.Accepted n) rows′
     → Grows a c e (a ++ t) n (length (a ++ t)) × ((k : ℕ) → k < n → startOf (getD rows′ k []) ≡ start (a ++ t) k)
-accepted a t rows rows′ c e n o f =
-    let v = f .filled .covered in
-    (rw (v .ends ∙ sym (whole-come (f .complete))) at (grows o t (ends-whole (f .complete) v)), indexed (f .complete) (f .filled))
+accepted a t rows rows′ c e n o f = (accepted-verdict a t c e n o (f .complete, f .filled .covered), indexed (f .complete) (f .filled))
 
 pub demand-3 : Demand3
 demand-3 = record {
   final = λ a t r g. refusal-kept a t g;
+  final-verdict = λ a t r _ g. final-verdict a t r g;
+  final-extent = λ a t r _ g. final-extent a t r g;
   final-finished = λ a t r _ g rows rows′ s f. refusal-final a t g rows s rows′ f .0;
   counted = λ a c e o. counts-are o;
   waiting = λ a t c e n d o q. grows o t q;
+  accepted-verdict = accepted-verdict;
   accepted = accepted;
   soonest = comes table lawful Judged (λ a c. waits {a = a} c) (λ a r g s j. unique-arrival a s (Refused r) j g);
 }

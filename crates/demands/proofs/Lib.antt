@@ -1,6 +1,7 @@
 pub mod Prefix
 pub mod Accept
 pub mod Accepted
+pub mod Verdict
 pub mod Counting
 pub mod Demands
 pub mod Example

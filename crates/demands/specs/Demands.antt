@@ -1,6 +1,6 @@
--- THE MISSION'S THREE DEMANDS, over the judges' answers: `Judged a r` says that r is right to answer of the arrival a, `FinishedIs a rows r rows′` that
--- r is right to answer of the finished product a and that the lent list, rows before, is then rows′. Each judge ends with such an answer for any bytes: its
--- promise has no `requires`. Assumes nothing.
+-- THE MISSION'S THREE DEMANDS, over the judges' answers: `Judged a r` says that r is right to answer of the arrival a, `VerdictIs a r` that r is right to
+-- answer of the finished product a, `FinishedIs a rows r rows′` that so it is and that the lent list, rows before, is then rows′. Each judge ends with such
+-- an answer for any bytes: its promise has no `requires`. Assumes nothing.
 use Prim.Native.Nat.{ℕ, zero, suc, _+_, _≤_, _<_}
 use mathlib.Core.Path.{_≡_}
 use mathlib.Core.List.{List, [], _∷_, _++_}
@@ -11,6 +11,7 @@ use Rattle.judge.specs.Table.{Gives, Judged}
 use Rattle.judge.specs.Extent.{ExtentIs}
 use Rattle.judge.specs.declared.arrival.Arrival.{Arrival}
 use Rattle.judge.specs.declared.arrival.Arrival.the-variants.{Waiting, Refused}
+use Rattle.judge.specs.declared.arrival.Extent.{Extent}
 use Rattle.judge.specs.declared.arrival.Extent.the-variants as X
 use Rattle.finish.specs.Rows.{rowsOf, startOf}
 use Rattle.finish.specs.Finish.{put, VerdictIs, FinishedIs}
@@ -31,9 +32,12 @@ pub record Demand1 : Type 0 where
   pub verdict : (a : List ℕ) (r : Refusal) → VerdictIs a (F.Refused r) → (1 ≤ r .number) × (r .number ≤ 17)
   pub finished : (a : List ℕ) (rows rows′ : List (List ℕ)) (r : Refusal) → FinishedIs a rows (F.Refused r) rows′ → (1 ≤ r .number) × (r .number ≤ 18) × (rows′ ≡ rows)
 
--- DEMAND 2. "A product is accepted exactly when it meets the format" (`Meets`, Product.antt), given room for its rows. "The index then holds those
--- starts": the list has the rows of its records (request Six), whose first numbers they are, from place 0 on, and what it held at the others
+-- DEMAND 2. "A product is accepted exactly when it meets the format" (`Meets`, Product.antt): by the verdict, and by the row lister, given room for its
+-- rows. "The index then holds those starts": the list has the rows of its records (request Six), whose first numbers they are, from place 0 on, and what
+-- it held at the others
 pub record Demand2 : Type 0 where
+  pub verdict-only : (a : List ℕ) (c : ℕ) → VerdictIs a (F.Accepted c) → (m : Meets a) × (c ≡ suc (length (m .list)))
+  pub verdict-every : (a : List ℕ) (m : Meets a) (r : Finished) → VerdictIs a r → r ≡ F.Accepted (suc (length (m .list)))
   pub only : (a : List ℕ) (rows rows′ : List (List ℕ)) (c : ℕ) → FinishedIs a rows (F.Accepted c) rows′ → (m : Meets a) × (c ≡ suc (length (m .list))) × (rows′ ≡ put 0 (rowsOf a (0 ∷ m .list)) rows)
   pub every :
       (a : List ℕ) (rows rows′ : List (List ℕ)) (m : Meets a) → suc (length (m .list)) ≤ length rows → (r : Finished) → FinishedIs a rows r rows′
@@ -71,12 +75,15 @@ module _ (Says : List ℕ → Arrival → Type 0) (Gives : List ℕ → Row → 
   pub record Demand3For (Known : List ℕ → Type 0) : Type 0 where
     -- "A refusal of an arrival is final: every longer arrival, finished or not, gets the same number and place"
     pub final : (a t : List ℕ) (r : Refusal) → Says a (Refused r) → (s : Arrival) → Says (a ++ t) s → s ≡ Refused r
+    pub final-verdict : (a t : List ℕ) (r : Refusal) → Known a → Says a (Refused r) → (s : Finished) → VerdictIs (a ++ t) s → s ≡ F.Refused r
+    pub final-extent : (a t : List ℕ) (r : Refusal) → Known a → Says a (Refused r) → (s : Extent) → ExtentIs (a ++ t) s → s ≡ X.Refused r
     pub final-finished :
         (a t : List ℕ) (r : Refusal) → Known a → Says a (Refused r) → (rows rows′ : List (List ℕ)) (s : Finished) → FinishedIs (a ++ t) rows s rows′ → s ≡ F.Refused r
-    -- "What was counted stays, at the same place and size": what is counted; where the longer one waits; where it is accepted as a finished product,
-    -- whose rows have the starts of its n records
+    -- "What was counted stays, at the same place and size": what is counted; where the longer one waits; where it is accepted as a finished product, by
+    -- the verdict, and by the lister, whose rows have the starts of its n records
     pub counted : (a : List ℕ) (c e : ℕ) → Says a (Waiting c e) → Counted a c e
     pub waiting : (a t : List ℕ) (c e n d : ℕ) → Says a (Waiting c e) → Says (a ++ t) (Waiting n d) → Grows a c e (a ++ t) n d
+    pub accepted-verdict : (a t : List ℕ) (c e n : ℕ) → Says a (Waiting c e) → VerdictIs (a ++ t) (F.Accepted n) → Grows a c e (a ++ t) n (length (a ++ t))
     pub accepted :
         (a t : List ℕ) (rows rows′ : List (List ℕ)) (c e n : ℕ) → Says a (Waiting c e) → FinishedIs (a ++ t) rows (F.Accepted n) rows′
         → Grows a c e (a ++ t) n (length (a ++ t)) × ((k : ℕ) → k < n → startOf (getD rows′ k []) ≡ start (a ++ t) k)

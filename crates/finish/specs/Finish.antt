@@ -1,4 +1,4 @@
--- What is to be said of a finished product, and what the lent list of rows is to hold (01, "Either side of the line" above: "The finished judge accepts
+-- What is to be said of a finished product, and what the lent list of rows is to hold (01, "Numbers we answer with": "The finished judge accepts
 -- with the count, index places 0 to count-1 written, the others kept"; rows 17 and 18; 02, Six: the index is a list of rows, and "Room in 18 is now
 -- counted in rows"). Assumes nothing.
 use Prim.Native.Nat.{ℕ, _+_, _≤_, _<_}

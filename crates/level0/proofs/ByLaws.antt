@@ -5,9 +5,10 @@ use native.Mathlib.Omega.{arith}
 use mathlib.Core.Path.{_≡_, refl, sym, ap, _∙_}
 use mathlib.Core.Bool.{Bool, true, false, cond}
 use mathlib.Core.Logic.{_⊎_, inl, inr, ⊎-elim}
-use mathlib.Core.List.{List, [], _∷_, _++_, List·Memᴰ as In, List·Memᴰ·head as top, List·Memᴰ·tail as pop, List·Memᴰ·not-nil as nil}
+use mathlib.Core.List.{List, [], _∷_, List·Memᴰ as In, List·Memᴰ·head as top, List·Memᴰ·tail as pop, List·Memᴰ·not-nil as nil}
 use lib.ListN.{length}
 use Rattle.calendar.specs.declared.Refusal.{Refusal}
+use Rattle.calendar.specs.Said.{refusing}
 use Rattle.mphr.proofs.Prefix.{same-refusal}
 use Rattle.tables.proofs.Laws.{not-clean}
 use Rattle.judge.specs.Extent.{Short, Complete, Covered}
@@ -23,17 +24,11 @@ use Rattle.finish.specs.declared.Finished.the-variants.{Accepted, Refused}
 use Rattle.finish.proofs.AheadLaws.{all-ahead, one-ahead}
 use Rattle.demands.specs.Product.{Meets}
 use Rattle.demands.proofs.Prefix.{unique-given}
-use Rattle.demands.proofs.Accepted.{meets-complete, covers, accepted-meets, meets-accepted, unique-finished}
+use Rattle.demands.proofs.Demands.{demand-1}
+use Rattle.level0.specs.Profile.{Named}
+use Rattle.demands.proofs.Accepted.{meets-complete, complete-is-product, covers, accepted-meets, meets-accepted, unique-finished}
 
 -- ---- the first record against a profile, in words
--- those before it meet the profile, and it does not
-pub record Named (p : List (List ℕ)) (a l : List ℕ) (q : ℕ) : Type 0 where
-  pub before : List ℕ
-  pub after : List ℕ
-  pub is : l ≡ before ++ (q ∷ after)
-  pub met : (i : ℕ) → In i before → isAllowed p a i ≡ true
-  pub unmet : isAllowed p a q ≡ false
-
 split : (x : Against) (b : Bool) (i : ℕ) {y : Against} → cond b x (At i) ≡ y → ((b ≡ true) × (x ≡ y)) ⊎ ((b ≡ false) × (At i ≡ y))
 split x true i e = inl (refl, e)
 split x false i e = inr (refl, e)
@@ -103,16 +98,17 @@ meets-by p a rows rows′ m met h (Refused r) (q, e) = meets-accepted a rows row
     go (against k v d) = never (ap (λ (l : List ℕ). firstAgainst p a (0 ∷ l)) (covers m v .1) ∙ met-none p a (0 ∷ m .list) met) d
     go (F.no-room k v d l) = F.no-room k v l
 
--- ---- 29 NAMES THE FIRST
-pub names-first :
-    (p : List (List ℕ)) {a : List ℕ} {room q : ℕ} → RefusesBy p a room 29 q → (m : Meets a) → (Refuses a room 29 q → ⊥) → Named p a (0 ∷ m .list) q
-names-first p {a} {room} {q} f m d = go 29 q f d refl
+-- ---- 29 NAMES THE FIRST, and a product it is: no other refusal has that number
+pub first-named : (p : List (List ℕ)) {a : List ℕ} {room q : ℕ} → RefusesBy p a room 29 q → (m : Meets a) × Named p a (0 ∷ m .list) q
+first-named p {a} {room} {q} f = go 29 q f refl refl
   where
-    go : (n s : ℕ) → RefusesBy p a room n s → (Refuses a room n s → ⊥) → s ≡ q → Named p a (0 ∷ m .list) q
-    go n s (F.faulty g) d e = absurd (d (F.faulty g))
-    go n s (F.short c h) d e = absurd (d (F.short c h))
-    go n s (against {q = t} k v z) d e = named p a (0 ∷ m .list) q (ap (λ (l : List ℕ). firstAgainst p a (0 ∷ l)) (sym (covers m v .1)) ∙ z ∙ ap At e)
-    go n s (F.no-room k v z l) d e = absurd (d (F.no-room k v l))
+    go : (n s : ℕ) → RefusesBy p a room n s → n ≡ 29 → s ≡ q → (m : Meets a) × Named p a (0 ∷ m .list) q
+    go n s (F.faulty g) d e = absurd (omega (arith, d, demand-1 .arrival a (refusing n s) g))
+    go n s (F.short c h) d e = absurd (omega (arith, d))
+    go n s (against {q = t} k v z) d e =
+        let m = complete-is-product k in
+        (m, named p a (0 ∷ m .list) q (ap (λ (l : List ℕ). firstAgainst p a (0 ∷ l)) (sym (covers m v .1)) ∙ z ∙ ap At e))
+    go n s (F.no-room k v z l) d e = absurd (omega (arith, d))
 
 -- ---- NO SECOND ANSWER
 pub unique-by : (p : List (List ℕ)) (a : List ℕ) (rows : List (List ℕ)) (r s : Finished) (x y : List (List ℕ)) → RowsBy p a rows r x → RowsBy p a rows s y → (r ≡ s) × (x ≡ y)

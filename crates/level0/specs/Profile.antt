@@ -3,8 +3,10 @@
 use Prim.Native.Nat.{ℕ, _≤_}
 use mathlib.Core.Path.{_≡_}
 use mathlib.Core.Logic.{_⊎_}
-use mathlib.Core.List.{List, [], _∷_}
+use mathlib.Core.Bool.{true, false}
+use mathlib.Core.List.{List, [], _∷_, _++_, List·Memᴰ as In}
 use Rattle.judge.specs.Table.{classAt}
+use Rattle.judge.specs.Profile.{isAllowed}
 use Rattle.finish.specs.Rows.{groupAt, subclassAt, versionAt}
 use Rattle.finish.specs.Finish.{RowsBy}
 use Rattle.finish.specs.declared.Finished.{Finished}
@@ -27,3 +29,12 @@ Level0Is a rows r rows′ = RowsBy level0 a rows r rows′
 pub record OfLevel0 (a : List ℕ) (i : ℕ) : Type 0 where
   pub viadr : classAt a i ≡ 7 → (groupAt a i ≡ 0) × (subclassAt a i ≡ 0) × (1 ≤ versionAt a i) × (versionAt a i ≤ 2)
   pub mdr : classAt a i ≡ 8 → (groupAt a i ≡ 13) ⊎ ((groupAt a i ≡ 0) × (subclassAt a i ≤ 4) × (versionAt a i ≡ 1))
+
+-- "29, record against the profile, place the first such record": of the records that start at the places l, those before q meet the profile p, and the one at
+-- q does not
+pub record Named (p : List (List ℕ)) (a l : List ℕ) (q : ℕ) : Type 0 where
+  pub before : List ℕ
+  pub after : List ℕ
+  pub is : l ≡ before ++ (q ∷ after)
+  pub met : (i : ℕ) → In i before → isAllowed p a i ≡ true
+  pub unmet : isAllowed p a q ≡ false

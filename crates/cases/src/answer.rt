@@ -10,8 +10,9 @@ use meter::integer::Written;
 ghost use mathlib.Core.Path.{_≡_};
 ghost use mathlib.Core.Bool.{true};
 ghost use Prim.Native.Nat.{_+_, _≤_};
-ghost use lib.ListN.{length};
+ghost use lib.ListN.{length, replicate};
 ghost use Rattle.cases.specs.Agree.{HasValues, Agrees};
+ghost use Rattle.cases.specs.Answers.{answerOf, valuesOf, refusedAs, writtenAs};
 
 // Its tag (0 a value, 1 a refusal, and others that a program gives a meaning), a refusal's number, five numbers of which the first is a
 // refusal's place, and whether what was lent is as it should be.
@@ -22,7 +23,9 @@ pub struct Answer {
     pub kept: bool,
 }
 
-pub fn tagged(tag: u8, kept: bool) -> Answer {
+pub fn tagged(tag: u8, kept: bool) -> Answer
+    ensures { λ r. ⌜ r ≡ answerOf tag 0 (replicate 5 0) kept ⌝ }
+{
     Answer {
         tag,
         number: 0,
@@ -31,7 +34,9 @@ pub fn tagged(tag: u8, kept: bool) -> Answer {
     }
 }
 
-pub fn values(a: u64, b: u64, c: u64, d: u64, e: u64) -> Answer {
+pub fn values(a: u64, b: u64, c: u64, d: u64, e: u64) -> Answer
+    ensures { λ r. ⌜ r ≡ valuesOf a b c d e ⌝ }
+{
     Answer {
         tag: 0,
         number: 0,
@@ -40,11 +45,15 @@ pub fn values(a: u64, b: u64, c: u64, d: u64, e: u64) -> Answer {
     }
 }
 
-pub fn value(a: u64, b: u64, c: u64) -> Answer {
+pub fn value(a: u64, b: u64, c: u64) -> Answer
+    ensures { λ r. ⌜ r ≡ valuesOf a b c 0 0 ⌝ }
+{
     values(a, b, c, 0, 0)
 }
 
-pub fn refused(r: Refusal, kept: bool) -> Answer {
+pub fn refused(r: Refusal, kept: bool) -> Answer
+    ensures { λ x. ⌜ x ≡ refusedAs r kept ⌝ }
+{
     Answer {
         tag: 1,
         number: r.number,
@@ -53,7 +62,9 @@ pub fn refused(r: Refusal, kept: bool) -> Answer {
     }
 }
 
-pub fn written(w: Written, kept: bool) -> Answer {
+pub fn written(w: Written, kept: bool) -> Answer
+    ensures { λ r. ⌜ r ≡ writtenAs w kept ⌝ }
+{
     match w {
         Written::Bytes(n) => Answer {
             tag: 0,

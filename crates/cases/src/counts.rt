@@ -2,20 +2,27 @@
 use crate::print::name_of;
 use crate::print::number;
 use crate::print::say;
+ghost use mathlib.Core.Path.{_≡_};
+ghost use lib.ListN.{replicate};
+ghost use Rattle.cases.specs.Answers.{countsOf, countedAs};
 
 pub struct Counts {
     pub agreed: [u64; 32],
     pub disagreed: [u64; 32],
 }
 
-pub fn none() -> Counts {
+pub fn none() -> Counts
+    ensures { λ r. ⌜ r ≡ countsOf (replicate 32 0) (replicate 32 0) ⌝ }
+{
     Counts {
         agreed: [0u64; 32],
         disagreed: [0u64; 32],
     }
 }
 
-pub fn counted(counts: Counts, kind: u8, ok: bool) -> Counts {
+pub fn counted(counts: Counts, kind: u8, ok: bool) -> Counts
+    ensures { λ r. ⌜ r ≡ countedAs counts kind ok ⌝ }
+{
     let at = (kind % 32) as usize;
     let mut next = counts;
     if ok {

@@ -114,6 +114,13 @@ pub data Denied (a : List ℕ) (k : ℕ) (sort : Sort) : ℕ → ℕ → Type 0 
   short : Clean (mainPart a) → length a < 3307 → Denied a k sort 17 (length a)
   no-field : Clean (mainPart a) → 3307 ≤ length a → (FieldOf k sort → ⊥) → Denied a k sort 22 0
 
+-- the numbers that it can have (proofs/FieldRefusals.antt): of the judge's those that 3,307 bytes can show, then 17 and 22
+abbrev pub ShownByMain : ℕ → Type 0
+ShownByMain n = ((1 ≤ n) × (n ≤ 6)) ⊎ ((n ≡ 10) ⊎ (n ≡ 15))
+
+abbrev pub FieldRefusal : ℕ → Type 0
+FieldRefusal n = ShownByMain n ⊎ ((n ≡ 17) ⊎ (n ≡ 22))
+
 -- and where none is given
 pub record Allowed (a : List ℕ) (k : ℕ) (sort : Sort) : Type 0 where
   pub clean : Clean (mainPart a)

@@ -1,5 +1,6 @@
 pub mod WayLaws
 pub mod RankLaws
+pub mod RankOnly
 pub mod WordLaws
 pub mod ScanLaws
 pub mod JudgeLaws

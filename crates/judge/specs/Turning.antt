@@ -1,13 +1,13 @@
 -- What the walk knows between two records, and what a turn comes to.
 -- Assumes nothing.
-use Prim.Native.Nat.{ℕ, _+_, _≤_, _<_}
+use Prim.Native.Nat.{ℕ, _+_, _*_, _≤_, _<_}
 use mathlib.Core.Path.{_≡_}
 use mathlib.Core.Bool.{Bool, true, false}
 use mathlib.Core.List.{List}
 use lib.ListN.{length, getD}
 use Rattle.calendar.specs.Said.{refusing}
 use Rattle.record.specs.Header.{isClass}
-use Rattle.text.specs.Field.{isNumber}
+use Rattle.text.specs.Field.{countAt}
 use Rattle.mphr.specs.Table.{declared, total, Fine}
 use Rattle.mphr.specs.Table as M
 use Rattle.judge.specs.Table.{Site, site, first, oneMore, sizeAt, Sound, Leads, Fault, main, at, too-long, shown, Judged}
@@ -32,6 +32,11 @@ abbrev pub Past : List ℕ → Site → Type 0
 Past a x = (g : Fault a) → shown g ≤ length a → Onward x g
 
 -- the array has the totals, 0 of the records and 1 to 8 of each class
+-- what the fields of the totals count, of any bytes: 0 where one is no number
+pub record TotalsRead (a t : List ℕ) : Type 0 where
+  pub nine : length t ≡ 9
+  pub read : (c : ℕ) → c ≤ 8 → getD t c 0 ≡ countAt a (2675 + 39 * c) 6
+
 pub record Totals (a t : List ℕ) : Type 0 where
   pub nine : length t ≡ 9
   pub same : (c : ℕ) → c ≤ 8 → getD t c 0 ≡ total a c
@@ -77,12 +82,6 @@ refusedAt n p = Refused (refusing n p)
 pub record Begun (a : List ℕ) : Type 0 where
   pub clean : M.Clean a
   pub come : 3307 ≤ length a
-
--- the width bytes from i on are a number that has come
-pub record CountAt (a : List ℕ) (i w : ℕ) : Type 0 where
-  pub come : i + w ≤ length a
-  pub number : isNumber false a i w ≡ true
-  pub small : w ≤ 17
 
 -- what the walk asks: D and the totals are at hand, and not 1 to 19 bytes are left after the main header
 pub record Walking (a ts : List ℕ) (d : ℕ) : Type 0 where

@@ -24,15 +24,14 @@ use mphr::faults::HeaderFault;
 ghost use mathlib.Core.Path.{_≡_};
 ghost use Prim.Native.Nat.{_+_, _*_, _^_, _≤_, _<_};
 ghost use lib.ListN.{length};
-ghost use Rattle.meter.specs.General.{numberOf};
-ghost use Rattle.text.specs.Field.{isNumber};
+ghost use Rattle.text.specs.Field.{countAt};
 ghost use Rattle.record.specs.Follow.{Ruled};
 ghost use Rattle.mphr.specs.Table.{declared, total, Fine};
 ghost use Rattle.judge.specs.Table.{site, Judged};
 ghost use Rattle.judge.specs.Extent.{ExtentIs};
 ghost use Rattle.judge.specs.Stretch.{noStretch, StretchIs};
 ghost use Rattle.judge.specs.Profile.{Meeting};
-ghost use Rattle.judge.specs.Turning.{Totals, Ready, TurnedIs, refusedAt, Begun, Walking, CountAt, Over, FewerIs, WalkedIs};
+ghost use Rattle.judge.specs.Turning.{Totals, Ready, TurnedIs, refusedAt, TotalsRead, Begun, Walking, Over, FewerIs, WalkedIs};
 
 pub enum Arrival {
     Waiting { count: usize, end: usize },
@@ -70,9 +69,9 @@ pub enum Turned {
     },
 }
 
-// The number of a field that has one, as each field of the size and the totals has in a fine main header.
+// The number of a field that has one, as each field of the size and the totals has in a fine main header; 0 of another.
 pub(crate) fn count_at(s: &[u8], at: usize, width: usize) -> usize
-    ensures { λ r. ⌜ (CountAt (now (s .entry)) at width → r ≡ numberOf (now (s .entry)) at width) ⌝ }
+    ensures { λ r. ⌜ r ≡ countAt (now (s .entry)) at width ⌝ }
 {
     text::count_at(s, at, width) as usize
 }
@@ -88,7 +87,7 @@ fn size_of(s: &[u8]) -> usize
 // The totals of the records and of each class.
 pub(crate) fn put_totals(s: &[u8], totals: &mut [usize])
     requires { ⌜ length (now totals) ≡ 9 ⌝ }
-    ensures { λ r. ⌜ (Begun (now (s .entry)) → Totals (now (s .entry)) (now (totals .exit))) ⌝ }
+    ensures { λ r. ⌜ TotalsRead (now (s .entry)) (now (totals .exit)) ⌝ }
 {
     let mut j: usize = 0;
     while j < 9 {

@@ -2,7 +2,7 @@
 use Prim.Native.Nat.{_-_}
 use native.Mathlib.Omega.{arith}
 use borrow.Author.Needs.{needs}
-use Rattle.judge.proofs.CountLaws.{total-said, Placed, put-first, put-next, put-last}
+use Rattle.judge.proofs.CountLaws.{Placed, put-first, put-next, put-last}
 use Rattle.judge.proofs.arrival.put_totals.Statement.{statement}
 use Rattle.judge.proofs.arrival.put_totals.Tie as tie
 
@@ -36,13 +36,13 @@ loop-less c = omega arith
 loop-again : tie.Need-loop-again Inv-loop μ-loop
 loop-again c =
     let l = c .before .before .loop in
-    put-next (l .inv) (c .before .loop-test .taken) (λ b. total-said b (c .before .loop-test .taken) (c .count-at .ensures))
+    put-next (l .inv) (c .before .loop-test .taken) (c .count-at .ensures)
 
 same-length : tie.Need-same-length Inv-loop μ-loop
 same-length c = omega (arith, c .before .loop .inv .nine, c .before .before .before .before .pre)
 
 returns : tie.Need-returns Inv-loop μ-loop
-returns c b = put-last b (c .before .loop .inv) (c .loop-test .left)
+returns c = put-last (c .before .loop .inv) (c .loop-test .left)
 
 pub put-totals-spec : {M : Type 1} → statement M
 put-totals-spec =

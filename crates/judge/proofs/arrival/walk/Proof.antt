@@ -7,6 +7,7 @@ use mathlib.Core.List.{List}
 use mathlib.Core.Path.{_≡_, refl, sym, _∙_}
 use Rattle.judge.specs.Turning.{Walking}
 use Rattle.judge.proofs.RankLaws.{part-is, not-part}
+use Rattle.judge.proofs.CountLaws.{totals-said}
 use Rattle.judge.proofs.JudgeLaws.{refuse-6-first}
 use Rattle.judge.proofs.TurnLaws.{said}
 use Rattle.judge.proofs.StretchLaws.{told-at-once}
@@ -26,7 +27,7 @@ walking c =
       least = z .ensures .1;
       small = z .ensures .2;
       not-part = λ h. omega (arith, not-part 3307 (z .result) (sym (e .before .is-part .ensures) ∙ e .if1 .left) h);
-      totals = c .put-totals .ensures (St c .pre);
+      totals = totals-said (c .put-totals .ensures) (St c .pre);
     }
 
 returns : tie.Need-returns

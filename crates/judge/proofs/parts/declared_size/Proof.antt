@@ -5,7 +5,7 @@ use Rattle.judge.proofs.parts.declared_size.Statement.{statement}
 use Rattle.judge.proofs.parts.declared_size.Tie as tie
 
 returns : tie.Need-returns
-returns c b = size-said b (c .count-at .ensures)
+returns c = (c .count-at .ensures, λ b. size-said b (c .count-at .ensures))
 
 pub declared-size-spec : {M : Type 1} → statement M
 declared-size-spec =

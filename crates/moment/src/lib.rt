@@ -36,9 +36,8 @@ fn extra_before(day: u64) -> u64
     first + second + third + fourth + extra(6209, day)
 }
 
-// Where a time stands, by its 48 bits.
+// Where a time stands, by its bits.
 fn on_line(bits: u64) -> u64
-    requires { ⌜ bits < 281474976710656 ⌝ }
     ensures { λ r. ⌜ r ≡ onLine (bits / 0x1_0000_0000) (bits % 0x1_0000_0000) ⌝ }
 {
     let day = bits / 0x1_0000_0000;
@@ -78,10 +77,10 @@ fn greater(x: u64, y: u64) -> u64
     x
 }
 
-// One stop and the next start, by their 48 bits. Where one is undefined the start is taken for both. (No early return, and no difference
-// that stops at 0, which on x86-64 is a branch: of times in no order it would be guessed wrong.)
+// One stop and the next start, by their bits: 48 of a time, and of any number what lies above the millisecond's 32 is the day. Where one is
+// undefined the start is taken for both. (No early return, and no difference that stops at 0, which on x86-64 is a branch: of times in no order
+// it would be guessed wrong.)
 pub fn time_between(stop: u64, start: u64) -> Between
-    requires { ⌜ (stop < 281474976710656) × (start < 281474976710656) ⌝ }
     ensures { λ r. ⌜ BetweenIs (timeOf stop) (timeOf start) r ⌝ }
 {
     let none = undefined_of(stop, start);

@@ -28,7 +28,7 @@ use Rattle.compare.specs.declared.walk.Compared.{Compared}
 use Rattle.compare.specs.declared.walk.Compared.the-variants as R
 use Rattle.compare.specs.Comparing.{Decides}
 use Rattle.compare.specs.Walking.{Both, Products, RecordsIs, comparedAs}
-use Rattle.compare.specs.Check.{refusedAt, IsCutOf, PartsCheck, is, other-field, unmatched, CheckIs, original-unfit, cut-unfit, both, NotAt, field, at-record, at-end, No}
+use Rattle.compare.specs.Check.{Cut, refusedAt, IsCutOf, PartsCheck, is, other-field, unmatched, CheckIs, original-unfit, cut-unfit, both, NotAt, field, at-record, at-end, No}
 use Rattle.compare.proofs.CutOfLaws.{verdict-cut, cut-verdict, cut-itself, cut-on}
 
 -- ---- of a product
@@ -112,11 +112,6 @@ unique-check a b r s (both t u p) (cut-unfit q v h) = absurd (meets-fit u q h)
 unique-check a b r s (both t u p) (both v w q) = one-parts (order v) (order w) (moved t v u w p) q
 
 -- ---- YES EXACTLY WHERE the second product is a cut of the first
-pub record Cut (a b : List ℕ) : Type 0 where
-  pub original : Meets a
-  pub cut : Meets b
-  pub parts : IsCutOf (mainOf a) (mainOf b) (recordsAt a (original .list)) (recordsAt b (cut .list))
-
 pub cut-is : {a b : List ℕ} → Cut a b → CheckIs a b C.Is
 cut-is c = both (c .original) (c .cut) (is (c .parts))
 

@@ -39,6 +39,12 @@ pub data CheckIs (a b : List ℕ) : Checked → Type 0 where
   both :
       {r : Checked} (t : Meets a) (u : Meets b) → PartsCheck (mainOf a) (mainOf b) (recordsAt a (t .list)) (recordsAt b (u .list)) r → CheckIs a b r
 
+-- YES, of the bytes a and b: two products, and the second is a cut of the first
+pub record Cut (a b : List ℕ) : Type 0 where
+  pub original : Meets a
+  pub cut : Meets b
+  pub parts : IsCutOf (mainOf a) (mainOf b) (recordsAt a (original .list)) (recordsAt b (cut .list))
+
 -- WHERE A NO STANDS, told apart from the walk: "place 0 for a field", and the fields differ; "else the start of the first cut record that can't be matched": a
 -- record of the cut starts there, those before it can be matched with the original's, and with it they cannot; "else the cut's length": all can be matched,
 -- and one of the original's SPHR and auxiliary records is left

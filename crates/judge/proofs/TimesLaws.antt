@@ -1,6 +1,5 @@
 -- Times that stand for sure: their milliseconds are such as every day has, or they are undefined, and as numbers of 48 bits, of which an
 -- undefined time is the greatest, the first is not above the second. By the day and the millisecond of each. Assumes nothing.
-use Rattle.calendar.specs.Calendar.{leapDay}
 use mathlib.Core.Path.{_≡_, refl, sym, ap, _∙_}
 use mathlib.Core.Bool.{Bool, true, false, cond, not, _&&_, _||_}
 use mathlib.Core.Logic.{_⊎_, inl, inr}
@@ -17,7 +16,7 @@ use Rattle.meter.specs.Time.{lastMilli, isMilli, isTime, timeOf, timeAt, compar
 use Rattle.meter.specs.declared.time.Time.{Time}
 use Rattle.meter.specs.declared.time.Time.the-variants as T
 use Rattle.meter.specs.declared.time.Order.the-variants as O
-use Rattle.meter.proofs.TimeLaws.{bits-none, bits-some}
+use Rattle.meter.proofs.TimeLaws.{bits-none, bits-some, every-day}
 use Rattle.record.specs.Times.{isAfter, timedAt}
 
 abbrev pub bits : ℕ → ℕ → ℕ
@@ -28,15 +27,6 @@ or-true true b e = inl refl
 or-true false b e = inr e
 
 -- ---- a time by itself
--- each day goes on to 86,399,999 at least
-pub every-day : (day : ℕ) → 86399999 ≤ lastMilli day
-unfolding lastMilli
-every-day day = go (leapDay day)
-  where
-    go : (b : Bool) → 86399999 ≤ cond b 86400999 86399999
-    go true = omega arith
-    go false = omega arith
-
 module _ (day ms next : ℕ) (e : next ≡ (ms + 1) % 2 ^ 32) (f : ms < 4294967296) where
   pub sure-milli : next ≤ 86400000 → (next ≡ 0 → ⊥) → isTime (timeOf (bits day ms)) ≡ true
   sure-milli h n =

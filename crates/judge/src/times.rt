@@ -10,7 +10,7 @@ ghost use lib.ListN.{length};
 ghost use Rattle.meter.specs.Time.{isTime, timeOf};
 ghost use Rattle.record.specs.Times.{timedAt};
 
-// Every day has the milliseconds before this one, whichever is its last (law `every-day`).
+// Every day has the milliseconds before this one, whichever is its last (law `every-day` of `meter`).
 const EVERY_DAY: u32 = 86_400_000;
 
 // All 48 bits one.

@@ -5,6 +5,7 @@ use native.Mathlib.Omega.{arith}
 use mathlib.Core.Path.{_≡_, refl, ap}
 use mathlib.Core.List.{List, _++_}
 use lib.ListN.{length, getD, length-append}
+use Rattle.meter.specs.Integer.{Bytes}
 use Rattle.tables.proofs.Laws.{number-is}
 use Rattle.judge.specs.Table.{Site, sizeAt, Leads, here, on}
 use Rattle.judge.proofs.WayLaws.{numbers}
@@ -21,10 +22,6 @@ use Rattle.listing.proofs.ColumnLaws.{column-length}
 use Rattle.listing.proofs.WalkLaws.{line-length, listing-parts}
 use Rattle.calendar.specs.declared.Refusal.{Refusal}
 use Rattle.listing.proofs.LineLaws.{line-bytes}
-
--- the list has bytes
-abbrev pub Bytes : List ℕ → Type 0
-Bytes a = (k : ℕ) → getD a k 0 < 256
 
 line-small : (a : List ℕ) (i : ℕ) → Bytes a → i ≤ 65536 → sizeAt a i ≤ 65536 → length (line a i) ≤ 28
 line-small a i b h s =

@@ -15,7 +15,7 @@ use Rattle.calendar.specs.declared.Date.{Date}
 use Rattle.calendar.specs.Calendar.{isDate, dateOf, daysTo, hasDay, leapDay, leapDate}
 use Rattle.calendar.proofs.Dates.{date-number, number-date, date-valid, has-day, year-low}
 use Rattle.meter.specs.Lent.{inside, writes, wrote}
-use Rattle.meter.specs.Time.{lastMilli, isMilli, isTime}
+use Rattle.meter.specs.Time.{lastMilli, isMilli, isTime, InDays}
 use Rattle.meter.specs.declared.time.Time.{Time}
 use Rattle.meter.specs.declared.time.Time.the-variants as T
 use Rattle.meter.specs.declared.general.Moment.{Moment}
@@ -25,7 +25,6 @@ use Rattle.meter.specs.General.{each, isNone, isDigits, momentAt, lastSe
 use Rattle.meter.proofs.GeneralRuns.{and-true, Digits, each-in, digits-same, whole-is, wholeOf}
 use Rattle.meter.proofs.GeneralWrite.{Bounds, moment-bounds, moment-digits, moment-zed, moment-back, general-back}
 use Rattle.meter.proofs.GeneralCode.{text-answer}
-use Rattle.meter.proofs.TimeLaws.{InDays}
 
 -- ---- the clock
 -- THE MILLISECOND OF A MOMENT, and back

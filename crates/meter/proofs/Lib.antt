@@ -3,6 +3,7 @@ pub mod IntegerLaws
 pub mod TimeLaws
 pub mod ScaledLaws
 pub mod RoundingLaws
+pub mod RoundedLaws
 pub mod ReadingLaws
 pub mod ReadsBack
 pub mod GeneralRuns

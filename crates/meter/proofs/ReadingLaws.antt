@@ -1,12 +1,12 @@
 -- The laws of the meter's reading, for the number that I and s stand for: the f64 is the exact fraction, rounded once; where the number is whole it
 -- is the conversion of that whole number; and a product is whole. By the kit's account of IEEE division and conversion. Assumes nothing.
 use mathlib.Core.Path.{_≡_, refl, sym, ap, _∙_, subst}
-use mathlib.Core.Bool.{Bool, true, false, true≢false}
+use mathlib.Core.Bool.{Bool, true, false, cond, true≢false}
 use Prim.Native.Nat.{ℕ, zero, suc, _*_, _/_, _%_, _^_, _≤_, _<_}
 use native.Mathlib.Nat.{mul-one, mul-comm, mul-assoc, mul-left-comm, mul-pos, div-mul-cancel, dvd-of-mod-eq-zero, pow-le-pow-right, zero-mul, div-one, mod-one}
 use native.Mathlib.Omega.{arith}
-use borrow.Author.Tests.{ne-eqb, eq-eqb, eqb-true, ltb-true}
-use lib.Dec.{T, lt→ltb, le→leb, lit<, eqb}
+use borrow.Author.Tests.{ne-eqb, eq-eqb, eqb-true, ltb-true, leb-true}
+use lib.Dec.{T, lt→ltb, le→leb, lit<, eqb, leb}
 use lib.IntN.{ℤ, pos, negsuc, negℤ, natAbs}
 use lib.Signed.{ltZ, quotZ}
 use lib.Ieee.{Float, nan, inf, fin, Format, binary64, up, down, unlike, inFloat, ofInt, div, round}
@@ -14,8 +14,14 @@ use lib.Ieee.Fits.{down-pos}
 use lib.Ieee.Exact.{HasValue}
 use lib.Ieee.Back.{round-whole}
 use lib.Ieee.Scale.{round-same}
+use Rattle.calendar.specs.Said.{Said, answer, refusal}
 use Rattle.meter.specs.Scaled.{isScale, divided, multiplied, standsFor}
-use Rattle.meter.specs.Reading.{quotient, converted, carried, isWhole, shownAs}
+use Rattle.meter.specs.Reading.{quotient, converted, carried, isWhole, wholeOf, shownAs, readingOf, saidReading, ExactCase}
+use Rattle.meter.specs.declared.scaled.Scaled.{Scaled}
+use Rattle.meter.specs.declared.scaled.Scaled.the-variants as S
+use Rattle.meter.specs.declared.scaled.Reading.{Reading}
+use Rattle.meter.specs.declared.scaled.Reading.the-variants as M
+use Rattle.meter.specs.declared.scaled.Shown.{Shown}
 use Rattle.meter.proofs.ScaledLaws.{scale-small}
 use Rattle.meter.proofs.RoundingLaws.{ten-pos}
 
@@ -112,7 +118,7 @@ one-rounding i (pos s) e h = quotient-rounded i s h (scale-small (pos s) e)
 one-rounding i (negsuc s) e h = converted-rounded i (suc s)
 
 -- THE EXACT CASE: where the number is whole, the f64 is the float of that whole number, with its sign
-pub exact-case : (i s : ℤ) → isScale s ≡ true → natAbs (standsFor i s .above) ≤ 2 ^ 53 → isWhole (standsFor i s) ≡ true → carried i s ≡ ofInt binary64 (quotZ (standsFor i s .above) (pos (standsFor i s .below)))
+pub exact-case : (i s : ℤ) → isScale s ≡ true → natAbs (standsFor i s .above) ≤ 2 ^ 53 → isWhole (standsFor i s) ≡ true → carried i s ≡ ofInt binary64 (wholeOf (standsFor i s))
 exact-case i (pos s) e h w = quotient-exact i s h (scale-small (pos s) e) (eqb-true (natAbs i % 10 ^ s) 0 w)
 exact-case i (negsuc s) e h w = ap (ofInt binary64) (sym (over-one (multiplied i (suc s) .above)))
 
@@ -124,3 +130,23 @@ shown-below i (negsuc s) t = refl
 pub shown-above : (i s : ℤ) → ltZ s (pos 0) ≡ false → shownAs (divided i (natAbs s)) (quotient i (natAbs s)) ≡ shownAs (standsFor i s) (carried i s)
 shown-above i (pos s) t = refl
 shown-above i (negsuc s) t = absurd (true≢false t)
+
+-- ---- THE EXACT CASE of what is answered
+whole-shown : (b c : Bool) (v w : Float) → answer (M.Whole w) ≡ cond b (answer (cond c (M.Whole v) (M.Between v))) (refusal 21 0) → (b ≡ true) × (c ≡ true) × (w ≡ v)
+whole-shown true true v w e = (refl, refl, cc)
+whole-shown true false v w e = let z : _≡_ {A = ℕ} 0 1 = cc in absurd (omega arith)
+whole-shown false c v w e = let z : _≡_ {A = ℕ} 0 1 = cc in absurd (omega arith)
+
+scale-shown : (b : Bool) {x : Said Reading} {w : Float} → answer (M.Whole w) ≡ cond b x (refusal 21 0) → (b ≡ true) × (answer (M.Whole w) ≡ x)
+scale-shown true e = (refl, e)
+scale-shown false e = let z : _≡_ {A = ℕ} 0 1 = cc in absurd (omega arith)
+
+exact-shown : (i s : ℤ) (v : Float) → answer (M.Whole v) ≡ readingOf (S.Number i s) → v ≡ ofInt binary64 (wholeOf (standsFor i s))
+exact-shown i s v e =
+    let p = scale-shown (isScale s) e in
+    let x = standsFor i s in
+    let q = whole-shown (leb (natAbs (x .above)) 0x20_0000_0000_0000) (isWhole x) (carried i s) v (p .1) in
+    q .2 ∙ exact-case i s (p .0) (leb-true (natAbs (x .above)) 0x20_0000_0000_0000 (q .0)) (q .1)
+
+pub exact-of : (x : Scaled) (r : Shown) → saidReading r ≡ readingOf x → ExactCase x r
+exact-of x r e = record { exact = λ f g. exact-shown _ _ _ (sym (ap saidReading g) ∙ e ∙ ap readingOf f) }

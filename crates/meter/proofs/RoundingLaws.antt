@@ -13,7 +13,7 @@ use lib.Pow.{pow-add}
 use lib.Signed.{ltZ, mag}
 use Rattle.calendar.specs.Said.{answer, refusal}
 use Rattle.meter.specs.Scaled.{divided, multiplied, standsFor}
-use Rattle.meter.specs.Rounding.{near, withSign, whole64, signedOf, nearestTo}
+use Rattle.meter.specs.Rounding.{near, withSign, whole64, signedOf, nearestTo, IsNearest}
 use Rattle.meter.specs.declared.scaled.Decimal.the-variants as D
 use Rattle.meter.proofs.Signs.{size-times}
 
@@ -36,13 +36,6 @@ near-low a b h = omega (arith, two (near a b) b, div-add-mod' (2 * a + b) (2 * b
 pub near-high : (a b : ℕ) → 0 < b → 2 * a < 2 * (near a b * b) + b
 unfolding near
 near-high a b h = omega (arith, two (near a b) b, div-add-mod' (2 * a + b) (2 * b), mod-lt (2 * a + b) {m = 2 * b} (omega arith))
-
-abbrev pub distance : ℕ → ℕ → ℕ
-distance x y = (x - y) + (y - x)
-
--- k times b is within half of b from a, and above a at a tie
-abbrev pub IsNearest : ℕ → ℕ → ℕ → Type 0
-IsNearest a b k = (2 * distance (k * b) a ≤ b) × (2 * distance (k * b) a ≡ b → a < k * b)
 
 pub nearest : (a b : ℕ) → 0 < b → IsNearest a b (near a b)
 nearest a b h = (omega (arith, near-low a b h, near-high a b h), λ e. omega (arith, near-low a b h, near-high a b h))

@@ -15,7 +15,7 @@ use denote.Laws.{Is}
 use Rattle.calendar.specs.Said.{Said, answer, refusal}
 use Rattle.meter.specs.Lent.{inside}
 use Rattle.meter.specs.Integer.{beAt, stored}
-use Rattle.meter.specs.Time.{lastMilli, isMilli, isTime, bitsOf, timeOf, timeAt, timeReadAt}
+use Rattle.meter.specs.Time.{lastMilli, isMilli, isTime, InDays, bitsOf, timeOf, timeAt, timeReadAt}
 use Rattle.meter.specs.declared.time.Time.{Time}
 use Rattle.meter.specs.declared.time.Time.the-variants as T
 use Rattle.meter.proofs.IntegerLaws.{back, stored-length}
@@ -42,6 +42,15 @@ last-most day = go (leapDay day)
     go true = omega arith
     go false = omega arith
 
+-- each day goes on to 86,399,999 at least
+pub every-day : (day : ℕ) → 86399999 ≤ lastMilli day
+unfolding lastMilli
+every-day day = go (leapDay day)
+  where
+    go : (b : Bool) → 86399999 ≤ cond b 86400999 86399999
+    go true = omega arith
+    go false = omega arith
+
 -- "A day outside the five keeps its limit"
 pub other-day : (day : ℕ) → leapDay day ≡ false → lastMilli day ≡ 86399999
 unfolding lastMilli
@@ -50,11 +59,7 @@ other-day day e = rw e
 pub milli-small : (day ms : ℕ) → isMilli day ms ≡ true → ms < 0xffff_ffff
 milli-small day ms e = omega (arith, leb-true ms (lastMilli day) e, last-most day)
 
--- the day of a time that is defined is of 16 bits, as each value of the type has it
-abbrev pub InDays : Time → Type 0
-InDays T.Undefined = Unit
-InDays (T.At day ms) = day < 65536
-
+-- each value of the machine's type has such a day
 pub in-days : (t : Time) (vs : List Val) → Is Typed.the-row t vs → InDays t
 in-days T.Undefined vs g = tt
 in-days (T.At day ms) vs g = omega (arith, g)

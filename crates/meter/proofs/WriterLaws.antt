@@ -1,5 +1,6 @@
--- THE WRITERS, by their promises alone: whatever a writer answers, what lies beyond its bytes is kept; and where it answers bytes, the reader of the
--- room at exit answers what was handed in. By the cases of the promise, and by what is put and read back. Assumes nothing.
+-- THE WRITERS, by their promises alone: whatever a writer answers, what lies beyond its bytes is kept; where it answers bytes, the reader of the room at
+-- exit answers what was handed in; where it refuses, the room is as it came. By the cases of the promise, and by what is put and read back. Assumes
+-- nothing.
 use Prim.Native.Nat.{ℕ, _+_, _≤_}
 use native.Mathlib.Omega.{arith}
 use mathlib.Core.Path.{_≡_, refl, sym, _∙_}
@@ -9,13 +10,12 @@ use borrow.Author.Tests.{leb-true}
 use lib.Dec.{leb}
 use lib.IntN.{ℤ}
 use lib.ListN.{length, getD}
-use mir.Val.{Val}
-use denote.Laws.{Is}
-use Rattle.calendar.specs.Said.{Said, answer, refusal}
-use Rattle.meter.specs.Lent.{wrote}
+use Rattle.calendar.specs.declared.Refusal.{Refusal}
+use Rattle.calendar.specs.Said.{Said, answer, refusal, refused}
+use Rattle.meter.specs.Lent.{wrote, Writes}
 use Rattle.meter.specs.Integer.{stored, wordOf, fitsUnsigned, fitsSigned, saidUnsigned, saidSigned, unsignedAt, signedAt, WritesUnsigned, WritesSigned}
-use Rattle.meter.specs.Time.{isTime, bitsOf, timeReadAt, saidTime, WritesTime}
-use Rattle.meter.specs.General.{digitsOf, generalReadAt, saidGeneral, fitsGeneral, putGeneral, generalOf, textTimeAt, WritesGeneral, WritesTimeText}
+use Rattle.meter.specs.Time.{isTime, InDays, bitsOf, WritesTime, TimeBack}
+use Rattle.meter.specs.General.{digitsOf, generalReadAt, saidGeneral, fitsGeneral, putGeneral, generalOf, WritesGeneral, WritesTimeText, TimeTextBack}
 use Rattle.meter.specs.Scaled.{noneOf, scaledReadAt, saidScaled, fitsScaled, putScaled, WritesScaled}
 use Rattle.meter.specs.declared.integer.Written.{Written}
 use Rattle.meter.specs.declared.integer.Written.the-variants as W
@@ -24,8 +24,6 @@ use Rattle.meter.specs.declared.integer.Unsigned.the-variants as U
 use Rattle.meter.specs.declared.integer.Signed.{Signed}
 use Rattle.meter.specs.declared.integer.Signed.the-variants as I
 use Rattle.meter.specs.declared.time.Time.{Time}
-use Rattle.meter.specs.declared.time.TimeRead.{TimeRead}
-use Rattle.meter.specs.declared.time.TimeRead.the-variants as T
 use Rattle.meter.specs.declared.general.General.{General}
 use Rattle.meter.specs.declared.general.GeneralRead.{GeneralRead}
 use Rattle.meter.specs.declared.general.GeneralRead.the-variants as G
@@ -34,12 +32,11 @@ use Rattle.meter.specs.declared.scaled.Scaled.the-variants as N
 use Rattle.meter.specs.declared.scaled.ScaledRead.{ScaledRead}
 use Rattle.meter.specs.declared.scaled.ScaledRead.the-variants as S
 use Rattle.meter.proofs.IntegerLaws.{stored-after}
-use Rattle.meter.proofs.time.Time as Typed
-use Rattle.meter.proofs.TimeLaws.{in-days, time-back}
+use Rattle.meter.proofs.TimeLaws.{time-back}
 use Rattle.meter.proofs.GeneralTime.{time-text-back}
 use Rattle.meter.proofs.GeneralWrite.{width-low, general-kept, general-back}
 use Rattle.meter.proofs.ReadsBack.{unsigned-back, signed-back, scaled-back}
-use Rattle.meter.proofs.Determined.{unique-read-unsigned, unique-read-signed, unique-read-time, unique-read-general, unique-text-time, unique-read-scaled}
+use Rattle.meter.proofs.Determined.{unique-read-unsigned, unique-read-signed, unique-read-general, unique-read-scaled}
 
 -- ---- a promise by its cases, whatever number q a value that is not right is refused with
 pub beyond : (room : List ℕ) (n : ℕ) (right : Bool) (new exit : List ℕ) (j : ℕ) → exit ≡ wrote room n right new → (right ≡ true → n ≤ length room → getD new j 0 ≡ getD room j 0) → getD exit j 0 ≡ getD room j 0
@@ -104,17 +101,6 @@ module _ (room exit : List ℕ) (m : ℕ) where
       let d = done room n _ (stored room 0 n (wordOf z)) exit 21 m (w .0) (w .1) in
       unique-read-signed exit 0 n r (I.Value z) e (rw (d .left) (sym (signed-back room n z (d .fits) (d .room-is))))
 
-  -- of a time of the machine's type, whose day has 16 bits
-  pub write-time-back : (t : Time) (vs : List Val) → Is Typed.the-row t vs → WritesTime room t (W.Bytes m) exit → (r : TimeRead) → saidTime r ≡ timeReadAt exit 0 → r ≡ T.Time t
-  write-time-back t vs g w r e =
-      let d = done room 6 (isTime t) (stored room 0 6 (bitsOf t)) exit 21 m (w .0) (w .1) in
-      unique-read-time exit 0 r (T.Time t) e (rw (d .left) (sym (time-back room t (in-days t vs g) (d .fits) (d .room-is))))
-
-  pub write-time-text-back : (t : Time) (vs : List Val) → Is Typed.the-row t vs → WritesTimeText room t (W.Bytes m) exit → (r : TimeRead) → saidTime r ≡ textTimeAt exit 0 → r ≡ T.Time t
-  write-time-text-back t vs g w r e =
-      let d = done room 18 (isTime t) (putGeneral 17 room (generalOf t)) exit 21 m (w .0) (w .1) in
-      unique-text-time exit 0 r (T.Time t) e (rw (d .left) (sym (time-text-back room t (d .fits) (in-days t vs g) (d .room-is))))
-
   pub write-general-back : (long : Bool) (t : General) → WritesGeneral room long t (W.Bytes m) exit → (r : GeneralRead) → saidGeneral r ≡ generalReadAt long exit 0 → r ≡ G.Time t
   write-general-back long t w r e =
       let d = done room (digitsOf long + 1) _ _ exit 21 m (w .0) (w .1) in
@@ -124,3 +110,28 @@ module _ (room exit : List ℕ) (m : ℕ) where
   write-scaled-back signed n x w r e =
       let d = done room (1 + n) _ (putScaled signed n room x) exit 21 m (w .0) (w .1) in
       unique-read-scaled signed n exit 0 r (S.Scaled x) e (rw (d .left) (sym (scaled-back signed n room x (d .fits) (d .room-is))))
+
+-- of a time whose day has 16 bits, as each of the machine's type has: what the two writers of times promise of the room at exit
+module _ (room exit : List ℕ) (r : Written) (t : Time) (i : InDays t) where
+  pub time-written-back : WritesTime room t r exit → TimeBack t r exit
+  time-written-back w e =
+      let d = done room 6 (isTime t) (stored room 0 6 (bitsOf t)) exit 21 6 (sym e ∙ w .0) (w .1) in
+      rw (d .left) (time-back room t i (d .fits) (d .room-is))
+
+  pub text-written-back : WritesTimeText room t r exit → TimeTextBack t r exit
+  text-written-back w e =
+      let d = done room 18 (isTime t) (putGeneral 17 room (generalOf t)) exit 21 18 (sym e ∙ w .0) (w .1) in
+      rw (d .left) (time-text-back room t (d .fits) i (d .room-is))
+
+-- ---- A REFUSAL KEEPS THE ROOM (demand 1: "A refusal leaves each lent buffer as it came"), once over every promise of this shape, whatever number q a
+-- value that is not right is refused with
+pub keeps : (q n : ℕ) (room new exit : List ℕ) (right : Bool) (r : Refusal) → _≡_ {A = Said ℕ} (refused r) (cond right (cond (leb n (length room)) (answer n) (refusal 18 n)) (refusal q 0)) → exit ≡ wrote room n right new → exit ≡ room
+keeps q n room new exit right r e x = go right (leb n (length room)) e x
+  where
+    go : (b c : Bool) → _≡_ {A = Said ℕ} (refused r) (cond b (cond c (answer n) (refusal 18 n)) (refusal q 0)) → exit ≡ cond (b && c) new room → exit ≡ room
+    go true true e x = let z : _≡_ {A = ℕ} 0 1 = cc in absurd (omega arith)
+    go true false e x = x
+    go false c e x = x
+
+pub refusal-keeps : (room : List ℕ) (n : ℕ) (right : Bool) (new exit : List ℕ) (r : Refusal) → Writes room n right new (W.Refused r) exit → exit ≡ room
+refusal-keeps room n right new exit r w = keeps 21 n room new exit right r (w .0) (w .1)

@@ -1,6 +1,7 @@
 -- Generalised times (01, "MPHR": "A time is YYYYMMDDHHMMSSZ, with three millisecond digits before Z when long; Gregorian calendar,
 -- years 0000 to 9999, seconds 00..59"; 002, 2.2.2.1 and 2.2.2.2, for the undefined spelling). Assumes nothing.
 use Prim.Native.Nat.{ℕ, zero, suc, _+_, _-_, _*_, _/_, _%_, min}
+use mathlib.Core.Path.{_≡_}
 use mathlib.Core.Bool.{Bool, true, false, cond, _&&_, _||_}
 use mathlib.Core.List.{List}
 use lib.Dec.{eqb, leb}
@@ -10,7 +11,7 @@ use Rattle.calendar.specs.Calendar.{date, isDate, dateOf, daysTo, hasDay, leapD
 use Rattle.calendar.specs.declared.Date.{Date}
 use Rattle.meter.specs.declared.integer.Written.{Written}
 use Rattle.meter.specs.Time.{isTime}
-use Rattle.meter.specs.Lent.{reads, Writes}
+use Rattle.meter.specs.Lent.{reads, saidWritten, Writes}
 use Rattle.meter.specs.declared.time.Time.{Time}
 use Rattle.meter.specs.declared.time.Time.the-variants as T
 use Rattle.meter.specs.declared.general.Moment.{Moment}
@@ -173,3 +174,7 @@ WritesGeneral room long t r exit = Writes room (digitsOf long + 1) (fitsGeneral 
 -- THE WRITER of a day and millisecond as long text
 abbrev pub WritesTimeText : List ℕ → Time → Written → List ℕ → Type 0
 WritesTimeText room t r exit = Writes room 18 (isTime t) (putGeneral 17 room (generalOf t)) r exit
+
+-- AND WHAT IT WROTE READS BACK
+abbrev pub TimeTextBack : Time → Written → List ℕ → Type 0
+TimeTextBack t r exit = saidWritten r ≡ answer 18 → textTimeAt exit 0 ≡ answer t

@@ -1,6 +1,6 @@
 -- Big-endian integers (01, "What we build from": "All binary numbers are big-endian").
 -- Assumes nothing.
-use Prim.Native.Nat.{ℕ, zero, suc, _+_, _-_, _*_, _/_, _%_, _^_}
+use Prim.Native.Nat.{ℕ, zero, suc, _+_, _-_, _*_, _/_, _%_, _^_, _<_}
 use mathlib.Core.Bool.{Bool, true, false, cond, _&&_, _||_}
 use mathlib.Core.List.{List}
 use lib.Dec.{eqb, ltb, leb}
@@ -14,6 +14,10 @@ use Rattle.meter.specs.declared.integer.Unsigned.{Unsigned}
 use Rattle.meter.specs.declared.integer.Unsigned.the-variants as U
 use Rattle.meter.specs.declared.integer.Signed.{Signed}
 use Rattle.meter.specs.declared.integer.Signed.the-variants as S
+
+-- each is a byte, as each number of a lent slice is
+abbrev pub Bytes : List ℕ → Type 0
+Bytes a = (k : ℕ) → getD a k 0 < 256
 
 -- the number in the n bytes of a from at on: each byte counts 256 times the one after it
 unfoldable pub beAt : List ℕ → ℕ → ℕ → ℕ

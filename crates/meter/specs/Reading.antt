@@ -2,9 +2,11 @@
 -- f64 quotient of I and 10^s, one division; whole exactly when 10^s divides I; |I| at most 2^53, else 21"; 02, request Five: "The meter reading
 -- counts it as whole, and gives 21 if the product's magnitude exceeds 2^53"). Assumes nothing.
 use Prim.Native.Nat.{ℕ, suc, _%_, _^_}
+use mathlib.Core.Path.{_≡_}
 use mathlib.Core.Bool.{Bool, true, false, cond}
 use lib.Dec.{eqb, leb}
 use lib.IntN.{ℤ, pos, negsuc, natAbs}
+use lib.Signed.{quotZ}
 use lib.Ieee.{Float, binary64, div, ofInt}
 use Rattle.calendar.specs.Said.{Said, answer, refusal, refused}
 use Rattle.meter.specs.Scaled.{Fraction, isScale, multiplied, standsFor}
@@ -40,6 +42,13 @@ shownAs x v = cond (leb (natAbs (x .above)) 0x20_0000_0000_0000) (answer (cond (
 abbrev pub readingOf : Scaled → Said Reading
 readingOf S.Undefined = answer M.Missing
 readingOf (S.Number i s) = cond (isScale s) (shownAs (standsFor i s) (carried i s)) (refusal 21 0)
+
+-- THE EXACT CASE: the f64 of a reading that is whole is the whole number itself
+abbrev pub wholeOf : Fraction → ℤ
+wholeOf x = quotZ (x .above) (pos (x .below))
+
+pub record ExactCase (x : Scaled) (r : Shown) : Type 0 where
+  pub exact : {i s : ℤ} {v : Float} → x ≡ S.Number i s → r ≡ W.Reading (M.Whole v) → v ≡ ofInt binary64 (wholeOf (standsFor i s))
 
 -- what an answer says
 abbrev pub saidReading : Shown → Said Reading

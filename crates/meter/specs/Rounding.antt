@@ -1,7 +1,8 @@
 -- Rounding (01, "Times and scaled numbers": "Rounded to d decimals (0..15, else 21, for undefined too): the whole M nearest to
 -- I·10^d / 10^s, a tie going away from zero, refused 21 if M leaves the signed 64-bit range"; 02, request Five: "Rounding keeps its rule and
 -- refusal 21 covers results out of range"). Over unbounded integers. Assumes nothing.
-use Prim.Native.Nat.{ℕ, _+_, _*_, _/_, _^_}
+use Prim.Native.Nat.{ℕ, _+_, _-_, _*_, _/_, _^_, _≤_, _<_}
+use mathlib.Core.Path.{_≡_}
 use mathlib.Core.Bool.{Bool, true, false, cond}
 use lib.Dec.{leb, ltb}
 use lib.IntN.{ℤ, pos, negsuc, negℤ, natAbs}
@@ -52,3 +53,16 @@ roundedOf x d = cond (isDecimals d) (rounding x (natAbs d)) (refusal 21 0)
 abbrev pub saidRounded : Rounded → Said Decimal
 saidRounded (R.Decimal x) = answer x
 saidRounded (R.Refused r) = refused r
+
+-- ---- WHAT NEAREST MEANS, apart from how it is found
+abbrev pub distance : ℕ → ℕ → ℕ
+distance x y = (x - y) + (y - x)
+
+-- k times b is within half of b from a, and above a at a tie
+abbrev pub IsNearest : ℕ → ℕ → ℕ → Type 0
+IsNearest a b k = (2 * distance (k * b) a ≤ b) × (2 * distance (k * b) a ≡ b → a < k * b)
+
+-- m is the whole number nearest to the fraction x times 10 ^ d, "a tie going away from zero": its size is nearest, and it has the sign of x
+pub record NearestTo (x : Fraction) (d : ℕ) (m : ℤ) : Type 0 where
+  pub size : IsNearest (natAbs (x .above) * 10 ^ d) (x .below) (natAbs m)
+  pub sign : m ≡ withSign (x .above) (natAbs m)

@@ -1,13 +1,14 @@
 -- Short CDS times (01, "Times and scaled numbers": "day from 1 January 2000 (2 bytes), millisecond of day (4 bytes) at most 86,399,999.
 -- All 48 bits one: undefined. Order is by day, then millisecond, and is refused 21 if either time is undefined"). Assumes nothing.
-use Prim.Native.Nat.{ℕ, _+_, _*_, _/_, _%_}
+use Prim.Native.Nat.{ℕ, _+_, _*_, _/_, _%_, _<_}
+use mathlib.Core.Path.{_≡_}
 use mathlib.Core.Bool.{Bool, true, false, cond, _&&_}
 use mathlib.Core.List.{List}
 use lib.Dec.{eqb, ltb, leb}
 use Rattle.calendar.specs.Calendar.{leapDay}
 use Rattle.calendar.specs.Said.{Said, answer, refusal, refused}
 use Rattle.meter.specs.declared.integer.Written.{Written}
-use Rattle.meter.specs.Lent.{reads, Writes}
+use Rattle.meter.specs.Lent.{reads, saidWritten, Writes}
 use Rattle.meter.specs.Integer.{beAt, stored}
 use Rattle.meter.specs.declared.time.Time.{Time}
 use Rattle.meter.specs.declared.time.Time.the-variants as T
@@ -30,6 +31,11 @@ isMilli day ms = leb ms (lastMilli day)
 abbrev pub isTime : Time → Bool
 isTime T.Undefined = true
 isTime (T.At day ms) = isMilli day ms
+
+-- "day from 1 January 2000 (2 bytes)": the day of a time that is defined is of 16 bits
+abbrev pub InDays : Time → Type 0
+InDays T.Undefined = Unit
+InDays (T.At day ms) = day < 65536
 
 -- its 48 bits: the day in the first 16, the millisecond in the other 32; all one where it is undefined
 abbrev pub bitsOf : Time → ℕ
@@ -68,3 +74,7 @@ saidOrder (C.Refused r) = refused r
 -- THE WRITER
 abbrev pub WritesTime : List ℕ → Time → Written → List ℕ → Type 0
 WritesTime room t r exit = Writes room 6 (isTime t) (stored room 0 6 (bitsOf t)) r exit
+
+-- AND WHAT IT WROTE READS BACK (01, "What a proof here has to exclude": "a writer that writes nothing (reading back, demand 2)")
+abbrev pub TimeBack : Time → Written → List ℕ → Type 0
+TimeBack t r exit = saidWritten r ≡ answer 6 → timeReadAt exit 0 ≡ answer t

@@ -14,7 +14,7 @@ ghost use Rattle.meter.specs.Time.{isTime, isMilli, saidTime};
 ghost use Rattle.meter.specs.General.{digitsOf, runOf, numberOf, isNone, isDigits, momentAt, lastSecond, isMoment};
 ghost use Rattle.meter.specs.General.{generalReadAt, saidGeneral, fitsGeneral, WritesGeneral};
 ghost use Rattle.meter.specs.General.{putDigits, putNone, putMoment, putGeneral};
-ghost use Rattle.meter.specs.General.{minuteOf, momentOf, milliOf, generalOf, timeOfMoment, textTimeAt, WritesTimeText};
+ghost use Rattle.meter.specs.General.{minuteOf, momentOf, milliOf, generalOf, timeOfMoment, textTimeAt, WritesTimeText, TimeTextBack};
 
 pub struct Moment {
     pub date: Date,
@@ -314,6 +314,7 @@ fn general_of(time: Time) -> General
 // A day and millisecond as long text.
 pub fn time_text(room: &mut [u8], time: Time) -> Written
     ensures { λ r. ⌜ WritesTimeText (now (room .entry)) time r (now (room .exit)) ⌝ }
+    ensures reads_back { λ r. ⌜ TimeTextBack time r (now (room .exit)) ⌝ }
 {
     if !crate::time::is_time(time) {
         return Written::Refused(Refusal {

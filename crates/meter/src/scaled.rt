@@ -13,7 +13,7 @@ ghost use Rattle.meter.specs.Scaled.{isScale, divided, multiplied, stand
 ghost use Rattle.meter.specs.Scaled.{noneOf, isNoneWord, definedOf, scaledReadAt, saidScaled};
 ghost use Rattle.meter.specs.Scaled.{fitsDefined, WritesParts, WritesScaled};
 ghost use Rattle.meter.specs.Rounding.{isDecimals, near, signedOf, nearestTo, roundedOf, saidRounded};
-ghost use Rattle.meter.specs.Reading.{quotient, converted, carried, shownAs, readingOf, saidReading};
+ghost use Rattle.meter.specs.Reading.{quotient, converted, carried, shownAs, readingOf, saidReading, ExactCase};
 
 pub enum Scaled {
     Undefined,
@@ -402,6 +402,7 @@ fn show_number(integer: i64, scale: i8) -> Shown
 // The reading that a meter shows.
 pub fn reading_of(number: Scaled) -> Shown
     ensures { λ r. ⌜ saidReading r ≡ readingOf number ⌝ }
+    ensures exact { λ r. ⌜ ExactCase number r ⌝ }
 {
     let Scaled::Number { integer, scale } = number else {
         return Shown::Reading(Reading::Missing);

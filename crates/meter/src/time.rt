@@ -3,7 +3,7 @@ use crate::integer::Written;
 use calendar::Refusal;
 ghost use mathlib.Core.Path.{_≡_};
 ghost use Rattle.meter.specs.Time.{lastMilli, isMilli, isTime, bitsOf, timeReadAt, saidTime};
-ghost use Rattle.meter.specs.Time.{orderOf, compared, saidOrder, WritesTime};
+ghost use Rattle.meter.specs.Time.{orderOf, compared, saidOrder, WritesTime, TimeBack};
 
 pub enum Time {
     Undefined,
@@ -91,6 +91,7 @@ fn time_bits(time: Time) -> u64
 
 pub fn write_time(room: &mut [u8], time: Time) -> Written
     ensures { λ r. ⌜ WritesTime (now (room .entry)) time r (now (room .exit)) ⌝ }
+    ensures reads_back { λ r. ⌜ TimeBack time r (now (room .exit)) ⌝ }
 {
     crate::integer::write_word(room, 6, is_time(time), time_bits(time))
 }

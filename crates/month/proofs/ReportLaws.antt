@@ -7,16 +7,15 @@ use native.Mathlib.Omega.{arith}
 use mathlib.Core.Path.{_≡_, refl, sym, ap, subst, _∙_}
 use mathlib.Core.Bool.{cond}
 use mathlib.Core.List.{List, [], _∷_}
-use lib.Dec.{eqb}
 use lib.ListN.{length, getD, set, replicate, length-set}
 use lib.Seq.{getD-set-same, getD-set-other}
 use Rattle.calendar.specs.Said.{refusing}
 use Rattle.calendar.specs.declared.Refusal.{Refusal}
-use Rattle.finish.specs.Rows.{startOf, row, ordinal, rowsAfter, rowsOf}
+use Rattle.finish.specs.Rows.{row, ordinal, rowsAfter, rowsOf}
 use Rattle.demands.specs.Product.{size, Meets}
 use Rattle.demands.proofs.Accepted.{one-list, meets-fit, one-refused}
 use Rattle.demands.proofs.Demands.{demand-1}
-use Rattle.month.specs.Report.{sumOf, recordsIn, bytesIn, mdrs, contribution, tallied, Contributes, accepted, unfit, plus, empty, Within, JoinIs, joined, past, AddIs, MergeIs, merged, over}
+use Rattle.month.specs.Report.{sumOf, recordsIn, bytesIn, mdrs, contribution, tallied, Contributes, accepted, unfit, plus, empty, Within, JoinIs, joined, past, AddIs, MergeIs, merged, over, OnlyTally, sizeIn, overRows, mdrRows}
 use Rattle.month.specs.declared.report.Added.{Added}
 use Rattle.month.specs.declared.report.Added.the-variants as A
 use Rattle.month.specs.declared.report.Merged.{Merged}
@@ -104,13 +103,6 @@ pub empty-merge : {x z : List ℕ} {r : Merged} → length x ≡ 38 → Within x
 empty-merge {x} e w m = let q = merge-within (within-at (sym (empty-plus x e)) w) m in (q .0, q .1 ∙ empty-plus x e)
 
 -- ---- "a refused product adds nothing but one to its refusal's tally": and one to the products, "refused ones counted"
-pub record OnlyTally (x y : List ℕ) (n : ℕ) : Type 0 where
-  pub low : 1 ≤ n
-  pub high : n ≤ 17
-  pub products : getD y 0 0 ≡ getD x 0 0 + 1
-  pub tally : getD y (20 + n) 0 ≡ getD x (20 + n) 0 + 1
-  pub others : (k : ℕ) → (k ≡ 0 → ⊥) → (k ≡ 20 + n → ⊥) → getD y k 0 ≡ getD x k 0
-
 tallied-adds : (x : List ℕ) (n : ℕ) → 1 ≤ n → n ≤ 17 → OnlyTally x (plus x (tallied n)) n
 tallied-adds x n l h =
     let none : List ℕ = replicate 38 0 in
@@ -148,22 +140,7 @@ past-keeps {a} {x} r p = go (A.Refused r) refl (p .joins) (p .contributes)
     go s e (joined w) (unfit q g) = absurd (let z : _≡_ {A = ℕ} 0 1 = cc in omega arith)
     go s e (past d) k = (refl, cc)
 
--- ---- "Totals are those of a definition over the accepted products' rows": a row has the start, the size and the class of its record
-abbrev sizeIn : List ℕ → ℕ
-sizeIn r = getD r 1 0
-
-abbrev classIn : List ℕ → ℕ
-classIn r = getD r 2 0
-
--- the sum of w over the rows of class c, and the starts in the rows of MDRs
-abbrev pub overRows : (List ℕ → ℕ) → ℕ → List (List ℕ) → ℕ
-overRows w c [] = 0
-overRows w c (r ∷ rs) = cond (eqb (classIn r) c) (w r) 0 + overRows w c rs
-
-abbrev pub mdrRows : List (List ℕ) → List ℕ
-mdrRows [] = []
-mdrRows (r ∷ rs) = cond (eqb (classIn r) 8) (startOf r ∷ mdrRows rs) (mdrRows rs)
-
+-- ---- "Totals are those of a definition over the accepted products' rows"
 rows-sum : (a : List ℕ) (w : ℕ → ℕ) (v : List ℕ → ℕ) → ((i n : ℕ) → v (row a i n) ≡ w i) → (c : ℕ) (before l : List ℕ) → overRows v c (rowsAfter a before l) ≡ sumOf a w c l
 rows-sum a w v h c before [] = refl
 rows-sum a w v h c before (i ∷ l) = rw (h i (ordinal a before i), rows-sum a w v h c (i ∷ before) l) refl

@@ -13,6 +13,7 @@ use Rattle.calendar.specs.Said.{refusing}
 use Rattle.calendar.specs.declared.Refusal.{Refusal}
 use Rattle.meter.specs.Time.{timeAt}
 use Rattle.meter.specs.declared.time.Time.{Time}
+use Rattle.finish.specs.Rows.{startOf}
 use Rattle.finish.specs.Finish.{VerdictIs}
 use Rattle.finish.specs.declared.Finished.the-variants as F
 use Rattle.demands.specs.Product.{class, size, Meets}
@@ -131,3 +132,28 @@ IsIn (A.Refused r) = ⊥
 abbrev pub AllIn : List Added → Type 0
 AllIn [] = Unit
 AllIn (r ∷ rs) = IsIn r × AllIn rs
+
+-- ---- WHAT LAWS NAME
+-- "a refused product adds nothing but one to its refusal's tally", n, and one to the products, "refused ones counted": from x to y
+pub record OnlyTally (x y : List ℕ) (n : ℕ) : Type 0 where
+  pub low : 1 ≤ n
+  pub high : n ≤ 17
+  pub products : getD y 0 0 ≡ getD x 0 0 + 1
+  pub tally : getD y (20 + n) 0 ≡ getD x (20 + n) 0 + 1
+  pub others : (k : ℕ) → (k ≡ 0 → ⊥) → (k ≡ 20 + n → ⊥) → getD y k 0 ≡ getD x k 0
+
+-- "Totals are those of a definition over the accepted products' rows": a row has the start, the size and the class of its record
+abbrev pub sizeIn : List ℕ → ℕ
+sizeIn r = getD r 1 0
+
+abbrev pub classIn : List ℕ → ℕ
+classIn r = getD r 2 0
+
+-- the sum of w over the rows of class c, and the starts in the rows of MDRs
+abbrev pub overRows : (List ℕ → ℕ) → ℕ → List (List ℕ) → ℕ
+overRows w c [] = 0
+overRows w c (r ∷ rs) = cond (eqb (classIn r) c) (w r) 0 + overRows w c rs
+
+abbrev pub mdrRows : List (List ℕ) → List ℕ
+mdrRows [] = []
+mdrRows (r ∷ rs) = cond (eqb (classIn r) 8) (startOf r ∷ mdrRows rs) (mdrRows rs)

@@ -1,6 +1,6 @@
 -- WRITTEN LINES: what lies beyond a line is kept; an arrival that has the bytes of a written line where line k stands has no fault 2 or 3 there, and
 -- the value reads back. The frame's bytes are the layout's; the value's field is alike with what its writer wrote. Said once over a writer of values
--- that keeps to its field (`Put`), which those of text, numbers and times are. Assumes nothing.
+-- that keeps to its field (`Put`), which those of text, numbers and times are. A refusal leaves the room as it came. Assumes nothing.
 use mathlib.Core.Path.{_≡_, refl, sym, ap, _∙_}
 use mathlib.Core.Bool.{Bool, true, false, true≢false}
 use mathlib.Core.List.{List}
@@ -10,6 +10,7 @@ use borrow.Author.Tests.{eq-eqb}
 use lib.Dec.{leb}
 use lib.ListN.{length, getD, take, drop, length-drop, List·getD-append}
 use lib.Seq.{getD-drop, getD-take, getD-append-add, length-take-le, ext-getD}
+use Rattle.calendar.specs.declared.Refusal.{Refusal}
 use Rattle.calendar.specs.Said.{answer}
 use Rattle.meter.specs.General.{digitsOf, isGeneral, generalAt, generalReadAt, fitsGeneral, putGeneral}
 use Rattle.meter.specs.declared.general.General.{General}
@@ -17,7 +18,7 @@ use Rattle.meter.specs.declared.integer.Written.{Written}
 use Rattle.meter.specs.declared.integer.Written.the-variants as W
 use Rattle.meter.proofs.ReadsBack.{reads-answer}
 use Rattle.meter.proofs.GeneralWrite.{width-low, general-back, general-kept, general-length}
-use Rattle.meter.proofs.WriterLaws.{Done, done, beyond}
+use Rattle.meter.proofs.WriterLaws.{Done, done, beyond, keeps}
 use Rattle.text.specs.Field.{isValue, numberReadAt}
 use Rattle.text.specs.Writing.{fitsNumber, putNumber, putText}
 use Rattle.text.specs.declared.Kind.{Kind}
@@ -221,3 +222,10 @@ module _ (room exit : List ℕ) (r : Written) (j k : ℕ) where
 -- and where bytes are answered, the line is there
 pub line-written : (room exit : List ℕ) (m k : ℕ) (right : Bool) (put : List ℕ → List ℕ) → WritesLine room k right put (W.Bytes m) exit → Done room (widthOf k + 33) right (putLine k put room) exit m
 line-written room exit m k right put w = done room (widthOf k + 33) right (putLine k put room) exit 22 m (w .0) (w .1)
+
+-- ---- A REFUSAL KEEPS THE ROOM: of a line, and of a name
+pub line-refusal-keeps : (room : List ℕ) (k : ℕ) (right : Bool) (put : List ℕ → List ℕ) (exit : List ℕ) (r : Refusal) → WritesLine room k right put (W.Refused r) exit → exit ≡ room
+line-refusal-keeps room k right put exit r w = keeps 22 (widthOf k + 33) room (putLine k put room) exit right r (w .0) (w .1)
+
+pub name-refusal-keeps : (room : List ℕ) (k : ℕ) (exit : List ℕ) (r : Refusal) → WritesName room k (W.Refused r) exit → exit ≡ room
+name-refusal-keeps room k exit r w = keeps 22 (length (nameOf k)) room (putText room (nameOf k)) exit (leb k 71) r (w .0) (w .1)

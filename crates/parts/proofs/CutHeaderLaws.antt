@@ -11,7 +11,7 @@ use lib.Dec.{T, eqb, leb}
 use lib.IntN.{pos}
 use lib.ListN.{length, getD, take, drop, replicate, length-append, length-take, length-drop, length-replicate, List·getD-append, List·getD-eq-default}
 use lib.Seq.{getD-take, getD-drop, getD-append-add, length-take-le}
-use Rattle.meter.specs.Integer.{beAt}
+use Rattle.meter.specs.Integer.{Bytes, beAt}
 use Rattle.meter.specs.Time.{lastMilli, isMilli, isTime, timeOf, timeAt, compared}
 use Rattle.meter.specs.General.{momentOf, isMoment, putGeneral, putMoment, putX, runOf, lead, fitsGeneral}
 use Rattle.meter.specs.declared.time.Time.{Time}
@@ -148,10 +148,6 @@ valid-sooner (T.At d m) u v w = picked (isAfter (compared (T.At d m) u)) u (T.At
 valid-later : (t u : Time) → Valid t → Valid u → Valid (later t u)
 valid-later T.Undefined u v w = w
 valid-later (T.At d m) u v w = picked (isAfter (compared u (T.At d m))) u (T.At d m) w v
-
--- a record of bytes
-abbrev pub Bytes : List ℕ → Type 0
-Bytes r = (k : ℕ) → getD r k 0 < 256
 
 pub own-times : (r : List ℕ) → timedAt r 0 ≡ true → (isTime (timeAt r 8) ≡ true) × (isTime (timeAt r 14) ≡ true)
 unfolding timedAt

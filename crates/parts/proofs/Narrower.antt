@@ -22,7 +22,8 @@ use Rattle.parts.specs.TownCut.{cutRecords, IsCut}
 use Rattle.parts.proofs.Built.{meets-built}
 use Rattle.parts.proofs.OnlyLaws.{only-in, only-only, only-same}
 use Rattle.parts.proofs.CutLaws.{of-class, assembled-only, low-in, cut-sphr}
-use Rattle.parts.proofs.CutHeaderLaws.{Bytes, parts-byte, stamp-long, name-long, cut-is-built}
+use Rattle.meter.specs.Integer.{Bytes}
+use Rattle.parts.proofs.CutHeaderLaws.{parts-byte, stamp-long, name-long, cut-is-built}
 use Rattle.parts.proofs.JoinLaws.{assembled-same}
 use Rattle.parts.proofs.JoinLines.{apart-kept, Match, match-spelled, count-match, part-same}
 use Rattle.parts.proofs.Unique.{main-back, parts-back, one-rewritten}

@@ -28,7 +28,8 @@ use Rattle.parts.proofs.WalkLaws.{walk-length, walk-first, built-back}
 use Rattle.parts.proofs.Assembled.{assembled-bytes}
 use Rattle.parts.proofs.FirstsLaws.{firsts-are, firsts-most}
 use Rattle.parts.proofs.CutLaws.{of-class, cut-tiles, cut-mdrs, cut-aux, cut-sphr, cut-pointers}
-use Rattle.parts.proofs.CutHeaderLaws.{Bytes, own-times, stamp-10, stamp-11, parts-byte, cut-is-built}
+use Rattle.meter.specs.Integer.{Bytes}
+use Rattle.parts.proofs.CutHeaderLaws.{own-times, stamp-10, stamp-11, parts-byte, cut-is-built}
 use Rattle.parts.proofs.OnlyLaws.{only-in}
 use Rattle.parts.proofs.Outmost.{starts-earliest, stops-latest}
 use Rattle.parts.proofs.Unique.{main-back, parts-back}

@@ -17,7 +17,8 @@ use Rattle.parts.specs.Only.{only, isMdr}
 use Rattle.parts.specs.Cut.{isUpTo, Window, window, within, isChosen}
 use Rattle.parts.specs.Windows.{Next, in-day, next-day, Parted, last, more, holding, choosing, chosenIn, lineStart, lineEnd}
 use Rattle.parts.proofs.Built.{meets-built}
-use Rattle.parts.proofs.CutHeaderLaws.{Valid, Bytes, own-times, time-valid, parts-byte}
+use Rattle.meter.specs.Integer.{Bytes}
+use Rattle.parts.proofs.CutHeaderLaws.{Valid, own-times, time-valid, parts-byte}
 use Rattle.parts.proofs.TimeOrder.{not-after, up-to, up-to-on}
 
 -- ---- a time is up to one instant, or from the next on

@@ -22,7 +22,8 @@ use Rattle.parts.specs.JoinHeader.{joinLines, joinValues}
 use Rattle.parts.specs.Pass.{Joinable, IsJoin}
 use Rattle.parts.specs.Rewritten.{Value, Rewritten, Anew, valuesOf, countLines, Holdable}
 use Rattle.parts.proofs.Built.{meets-built}
-use Rattle.parts.proofs.CutHeaderLaws.{Bytes, parts-byte, cut-is-built}
+use Rattle.meter.specs.Integer.{Bytes}
+use Rattle.parts.proofs.CutHeaderLaws.{parts-byte, cut-is-built}
 use Rattle.parts.proofs.JoinHeaderLaws.{join-is-built}
 use Rattle.parts.proofs.Unique.{one-rewritten}
 use Rattle.payload.specs.Apart.{Apart}

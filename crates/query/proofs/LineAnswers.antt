@@ -60,10 +60,10 @@ time-sort LongTime t e = refl
 
 -- of a product the main header's bytes show no fault
 module _ {b : List ℕ} (m : Meets b) where
-  come : 3307 ≤ length b
+  pub come : 3307 ≤ length b
   come = meets-complete m .header
 
-  main-clean : Clean (mainPart b)
+  pub main-clean : Clean (mainPart b)
   main-clean = let e = take-append-drop 3307 b in stays-clean table lawful (take 3307 b) (drop 3307 b) (rw e (meets-complete m .clean))
 
   allowed : {k : ℕ} {sort : Sort} → FieldOf k sort → Allowed b k sort

@@ -34,7 +34,7 @@ one-refusal : (r s : Refusal) → (r .number ≡ s .number) × (r .place ≡ s .
 one-refusal r s e = same-refusal r s (e .0) (e .1)
 
 -- ---- of the judge
-one-count : (a : List ℕ) (c e d f : ℕ) → Open a c e → Open a d f → c ≡ d
+pub one-count : (a : List ℕ) (c e d f : ℕ) → Open a c e → Open a d f → c ≡ d
 one-count a c e d f o p = let z = unique-arrival a (Waiting c e) (Waiting d f) o p in cc
 
 -- ---- the record query

@@ -19,7 +19,7 @@ use Rattle.demands.proofs.Counting.{later, ends-whole, indexed}
 use Rattle.query.proofs.QueryDetermined.{unique-record-at}
 
 -- record k starts where `start` says
-started : {a : List ℕ} {c e : ℕ} → Open a c e → (k : ℕ) → k < c → StartOf a k (start a k)
+pub started : {a : List ℕ} {c e : ℕ} → Open a c e → (k : ℕ) → k < c → StartOf a k (start a k)
 unfolding start
 started o zero h = inl (refl, refl)
 started o (suc k) h = let n = later o (suc k) (omega arith) h .1 in inr (record { spot = n .spot; way = n .way; numbered = n .numbered; begins = n .begins })

@@ -12,50 +12,44 @@ use mir.Val.{Val}
 use denote.Laws.{Is}
 use Rattle.calendar.specs.Said.{answer}
 use Rattle.meter.specs.Lent.{inside}
-use Rattle.meter.specs.Integer.{beAt, stored}
-use Rattle.meter.specs.Time.{isTime, bitsOf, timeOf, timeAt, timeReadAt}
+use Rattle.meter.specs.Integer.{Bytes, beAt, stored}
+use Rattle.meter.specs.Time.{isTime, InDays, bitsOf, timeOf, timeAt, timeReadAt}
 use Rattle.meter.specs.declared.time.Time.{Time}
 use Rattle.meter.specs.declared.integer.Written.{Written}
-use Rattle.meter.specs.declared.integer.Written.the-variants as W
 use Rattle.meter.proofs.IntegerLaws.{back, beAt-lt, beAt-same}
-use Rattle.meter.proofs.TimeLaws.{InDays, in-days, bits-back}
+use Rattle.meter.proofs.TimeLaws.{in-days, bits-back}
 use Rattle.meter.proofs.ReadsBack.{reads-answer, time-again}
 use Rattle.meter.proofs.WriterLaws.{beyond, done}
-use Rattle.record.specs.Header.{isHeader, headerAt, headerReadAt, saidHeader, putHeader, WritesHeader}
-use Rattle.record.specs.Pointer.{isPointer, pointerAt, pointerReadAt, saidPointer, putPointer, WritesPointer}
+use Rattle.record.specs.Header.{isHeader, headerAt, headerReadAt, putHeader, WritesHeader, HeaderBack}
+use Rattle.record.specs.Pointer.{isPointer, pointerAt, pointerReadAt, putPointer, WritesPointer, PointerBack}
 use Rattle.record.specs.declared.header.Header.{Header}
-use Rattle.record.specs.declared.header.HeaderRead.{HeaderRead}
-use Rattle.record.specs.declared.header.HeaderRead.the-variants as H
 use Rattle.record.specs.declared.pointer.Pointer.{Pointer}
-use Rattle.record.specs.declared.pointer.PointerRead.{PointerRead}
-use Rattle.record.specs.declared.pointer.PointerRead.the-variants as P
 use Rattle.record.proofs.FieldLaws.{part-inside, byte-is, Field, field, put, Held, put-length, put-after, put-held, held-again, held-left}
 use Rattle.record.proofs.HeaderLaws.{header-parts}
 use Rattle.record.proofs.PointerLaws.{pointer-header}
-use Rattle.record.proofs.Determined.{unique-read-header, unique-read-pointer}
 use Rattle.record.proofs.header.Header as HeaderType
 use Rattle.record.proofs.pointer.Pointer as PointerType
 
 -- ---- the fields of a header, one after another
-abbrev fieldsOf : Header → List Field
+abbrev pub fieldsOf : Header → List Field
 fieldsOf h =
     field 1 (h .class) ∷ field 1 (h .group) ∷ field 1 (h .subclass) ∷ field 1 (h .version) ∷ field 4 (h .size) ∷ field 6 (bitsOf (h .start)) ∷ field 6 (bitsOf (h .stop)) ∷ []
 
-header-fields : (a : List ℕ) (h : Header) → putHeader a h ≡ put a 0 (fieldsOf h)
+pub header-fields : (a : List ℕ) (h : Header) → putHeader a h ≡ put a 0 (fieldsOf h)
 unfolding putHeader
 header-fields a h = refl
 
 -- the ranges that the types of the fields give, which each value of the machine's type has
-record Ranges (h : Header) : Type 0 where
-  class : h .class < 256
-  group : h .group < 256
-  subclass : h .subclass < 256
-  version : h .version < 256
-  size : h .size < 0x1_0000_0000
-  start : InDays (h .start)
-  stop : InDays (h .stop)
+pub record Ranges (h : Header) : Type 0 where
+  pub class : h .class < 256
+  pub group : h .group < 256
+  pub subclass : h .subclass < 256
+  pub version : h .version < 256
+  pub size : h .size < 0x1_0000_0000
+  pub start : InDays (h .start)
+  pub stop : InDays (h .stop)
 
-header-ranges : (h : Header) (vs : List Val) → Is HeaderType.the-row h vs → Ranges h
+pub header-ranges : (h : Header) (vs : List Val) → Is HeaderType.the-row h vs → Ranges h
 header-ranges h vs g =
     let f = g .1 .1 in
     let t = f .1 .1 .1 .1 .1 in
@@ -68,7 +62,7 @@ byte-held t i v h e = sym (byte-is t i) ∙ sym e ∙ mod-eq-of-lt h
 time-held : (t : List ℕ) (i : ℕ) (u : Time) → InDays u → isTime u ≡ true → bitsOf u % 256 ^ 6 ≡ beAt t i 6 → timeAt t i ≡ u
 time-held t i u d r e = let b = bits-back u d r in ap timeOf (sym e ∙ mod-eq-of-lt (b .0)) ∙ b .1
 
-header-held : (t : List ℕ) (h : Header) → isHeader h ≡ true → Ranges h → Held t 0 0 (fieldsOf h) → headerAt t 0 ≡ h
+pub header-held : (t : List ℕ) (h : Header) → isHeader h ≡ true → Ranges h → Held t 0 0 (fieldsOf h) → headerAt t 0 ≡ h
 unfolding headerAt
 header-held t h r y e =
     let p = header-parts h r in
@@ -82,19 +76,19 @@ header-held t h r y e =
     rw (c, g, s, v, z, u, w)
 
 -- ---- what is read, held
-read-byte : (t : List ℕ) (i : ℕ) → ((k : ℕ) → getD t k 0 < 256) → getD t i 0 % 256 ^ 1 ≡ beAt t i 1
+read-byte : (t : List ℕ) (i : ℕ) → Bytes t → getD t i 0 % 256 ^ 1 ≡ beAt t i 1
 read-byte t i b = mod-eq-of-lt (b i) ∙ sym (byte-is t i)
 
-read-word : (t : List ℕ) (i : ℕ) → ((k : ℕ) → getD t k 0 < 256) → beAt t i 4 % 256 ^ 4 ≡ beAt t i 4
+read-word : (t : List ℕ) (i : ℕ) → Bytes t → beAt t i 4 % 256 ^ 4 ≡ beAt t i 4
 read-word t i b = mod-eq-of-lt (beAt-lt t b i 4)
 
-read-time : (room t : List ℕ) (i : ℕ) → ((k : ℕ) → getD t k 0 < 256) → 6 ≤ length room → inside t i 6 ≡ true → isTime (timeAt t i) ≡ true → bitsOf (timeAt t i) % 256 ^ 6 ≡ beAt t i 6
+read-time : (room t : List ℕ) (i : ℕ) → Bytes t → 6 ≤ length room → inside t i 6 ≡ true → isTime (timeAt t i) ≡ true → bitsOf (timeAt t i) % 256 ^ 6 ≡ beAt t i 6
 read-time room t i b h n r =
     let u = timeAt t i in
     let e : timeReadAt t i ≡ answer u = rw (n, r) in
     sym (back room 0 6 (bitsOf u) h) ∙ beAt-same (stored room 0 6 (bitsOf u)) t 0 i 6 (λ k l. let z : 0 + k ≡ k = omega arith in rw z (time-again room t i u b h e k l))
 
-read-header : (room b : List ℕ) (at : ℕ) → ((k : ℕ) → getD b k 0 < 256) → 6 ≤ length room → inside b at 20 ≡ true → isHeader (headerAt b at) ≡ true → Held b at 0 (fieldsOf (headerAt b at))
+read-header : (room b : List ℕ) (at : ℕ) → Bytes b → 6 ≤ length room → inside b at 20 ≡ true → isHeader (headerAt b at) ≡ true → Held b at 0 (fieldsOf (headerAt b at))
 unfolding headerAt
 read-header room b at bytes h i r =
     let p = header-parts (headerAt b at) r in
@@ -112,7 +106,7 @@ header-back a h r y l =
     let i : inside b 0 20 ≡ true = le-leb 20 (length b) (omega (arith, put-length a 0 (fieldsOf h))) in
     rw (f, i, e, r)
 
-pub header-again : (room b : List ℕ) (at : ℕ) (h : Header) → ((k : ℕ) → getD b k 0 < 256) → 20 ≤ length room → headerReadAt b at ≡ answer h → (k : ℕ) → k < 20 → getD (putHeader room h) k 0 ≡ getD b (at + k) 0
+pub header-again : (room b : List ℕ) (at : ℕ) (h : Header) → Bytes b → 20 ≤ length room → headerReadAt b at ≡ answer h → (k : ℕ) → k < 20 → getD (putHeader room h) k 0 ≡ getD b (at + k) 0
 header-again room b at h bytes l e k m =
     let r = reads-answer b at 20 (isHeader (headerAt b at)) (headerAt b at) h e in
     let held = read-header room b at bytes (omega arith) (r .0) (r .1) in
@@ -128,29 +122,29 @@ pub header-kept : (room : List ℕ) (h : Header) (j : ℕ) → 20 ≤ j → getD
 header-kept room h j l = ap (λ (s : List ℕ). getD s j 0) (header-fields room h) ∙ put-after room 0 (fieldsOf h) j l
 
 -- ---- POINTER RECORDS
-abbrev targetOf : Pointer → List Field
+abbrev pub targetOf : Pointer → List Field
 targetOf p = field 1 (p .class) ∷ field 1 (p .group) ∷ field 1 (p .subclass) ∷ field 4 (p .offset) ∷ []
 
-abbrev pointerFields : Pointer → List Field
+abbrev pub pointerFields : Pointer → List Field
 pointerFields p = fieldsOf (p .header) ++ targetOf p
 
-pointer-fields : (a : List ℕ) (p : Pointer) → putPointer a p ≡ put a 0 (pointerFields p)
+pub pointer-fields : (a : List ℕ) (p : Pointer) → putPointer a p ≡ put a 0 (pointerFields p)
 unfolding putPointer putHeader
 pointer-fields a p = refl
 
-record PointerRanges (p : Pointer) : Type 0 where
-  header : Ranges (p .header)
-  class : p .class < 256
-  group : p .group < 256
-  subclass : p .subclass < 256
-  offset : p .offset < 0x1_0000_0000
+pub record PointerRanges (p : Pointer) : Type 0 where
+  pub header : Ranges (p .header)
+  pub class : p .class < 256
+  pub group : p .group < 256
+  pub subclass : p .subclass < 256
+  pub offset : p .offset < 0x1_0000_0000
 
-pointer-ranges : (p : Pointer) (vs : List Val) → Is PointerType.the-row p vs → PointerRanges p
+pub pointer-ranges : (p : Pointer) (vs : List Val) → Is PointerType.the-row p vs → PointerRanges p
 pointer-ranges p vs g =
     let f = g .1 .1 in
     record { header = header-ranges (p .header) _ (f .0); class = omega (arith, f .1); group = omega (arith, f .1); subclass = omega (arith, f .1); offset = omega (arith, f .1) }
 
-pointer-held : (t : List ℕ) (p : Pointer) → isPointer p ≡ true → PointerRanges p → Held t 0 0 (pointerFields p) → pointerAt t 0 ≡ p
+pub pointer-held : (t : List ℕ) (p : Pointer) → isPointer p ≡ true → PointerRanges p → Held t 0 0 (pointerFields p) → pointerAt t 0 ≡ p
 unfolding pointerAt
 pointer-held t p r y e =
     let x = e .1 .1 .1 .1 .1 .1 .1 in
@@ -161,7 +155,7 @@ pointer-held t p r y e =
     let z : beAt t 23 4 ≡ p .offset = sym (x .1 .1 .1 .0) ∙ mod-eq-of-lt (y .offset) in
     rw (h, c, g, s, z)
 
-read-pointer : (room b : List ℕ) (at : ℕ) → ((k : ℕ) → getD b k 0 < 256) → 6 ≤ length room → inside b at 27 ≡ true → isPointer (pointerAt b at) ≡ true → Held b at 0 (pointerFields (pointerAt b at))
+read-pointer : (room b : List ℕ) (at : ℕ) → Bytes b → 6 ≤ length room → inside b at 27 ≡ true → isPointer (pointerAt b at) ≡ true → Held b at 0 (pointerFields (pointerAt b at))
 unfolding pointerAt
 read-pointer room b at bytes h i r =
     let n : inside b at 20 ≡ true = le-leb (at + 20) (length b) (omega (arith, leb-true (at + 27) (length b) i)) in
@@ -179,7 +173,7 @@ pointer-back a p r y l =
     let i : inside b 0 27 ≡ true = le-leb 27 (length b) (omega (arith, put-length a 0 (pointerFields p))) in
     rw (f, i, e, r)
 
-pub pointer-again : (room b : List ℕ) (at : ℕ) (p : Pointer) → ((k : ℕ) → getD b k 0 < 256) → 27 ≤ length room → pointerReadAt b at ≡ answer p → (k : ℕ) → k < 27 → getD (putPointer room p) k 0 ≡ getD b (at + k) 0
+pub pointer-again : (room b : List ℕ) (at : ℕ) (p : Pointer) → Bytes b → 27 ≤ length room → pointerReadAt b at ≡ answer p → (k : ℕ) → k < 27 → getD (putPointer room p) k 0 ≡ getD b (at + k) 0
 pointer-again room b at p bytes l e k m =
     let r = reads-answer b at 27 (isPointer (pointerAt b at)) (pointerAt b at) p e in
     let held = read-pointer room b at bytes (omega arith) (r .0) (r .1) in
@@ -202,14 +196,14 @@ module _ (room exit : List ℕ) (r : Written) (j : ℕ) where
   pub write-pointer-keeps : (p : Pointer) → WritesPointer room p r exit → 27 ≤ j → getD exit j 0 ≡ getD room j 0
   write-pointer-keeps p w l = beyond room 27 (isPointer p) (putPointer room p) exit j (w .1) (λ _ _. pointer-kept room p j l)
 
--- and where bytes are answered, what was written reads back, of each value of the machine's type
-module _ (room exit : List ℕ) (m : ℕ) (vs : List Val) where
-  pub write-header-back : (h : Header) → Is HeaderType.the-row h vs → WritesHeader room h (W.Bytes m) exit → (r : HeaderRead) → saidHeader r ≡ headerReadAt exit 0 → r ≡ H.Header h
-  write-header-back h g w r e =
-      let d = done room 20 (isHeader h) (putHeader room h) exit 21 m (w .0) (w .1) in
-      unique-read-header exit 0 r (H.Header h) e (rw (d .left) (sym (header-back room h (d .fits) (header-ranges h vs g) (d .room-is))))
+-- and where bytes are answered, what was written reads back, of values in the ranges of their types
+module _ (room exit : List ℕ) (r : Written) where
+  pub header-written-back : (h : Header) → Ranges h → WritesHeader room h r exit → HeaderBack h r exit
+  header-written-back h y w e =
+      let d = done room 20 (isHeader h) (putHeader room h) exit 21 20 (sym e ∙ w .0) (w .1) in
+      rw (d .left) (header-back room h (d .fits) y (d .room-is))
 
-  pub write-pointer-back : (p : Pointer) → Is PointerType.the-row p vs → WritesPointer room p (W.Bytes m) exit → (r : PointerRead) → saidPointer r ≡ pointerReadAt exit 0 → r ≡ P.Pointer p
-  write-pointer-back p g w r e =
-      let d = done room 27 (isPointer p) (putPointer room p) exit 21 m (w .0) (w .1) in
-      unique-read-pointer exit 0 r (P.Pointer p) e (rw (d .left) (sym (pointer-back room p (d .fits) (pointer-ranges p vs g) (d .room-is))))
+  pub pointer-written-back : (p : Pointer) → PointerRanges p → WritesPointer room p r exit → PointerBack p r exit
+  pointer-written-back p y w e =
+      let d = done room 27 (isPointer p) (putPointer room p) exit 21 27 (sym e ∙ w .0) (w .1) in
+      rw (d .left) (pointer-back room p (d .fits) y (d .room-is))

@@ -1,12 +1,13 @@
 -- Record headers (01, "Record header, 20 bytes": class 0, instrument group 1, subclass 2, subclass version 3, record size 4..7, start time
 -- 8..13, stop time 14..19; 002, tables 12, 13 and 14). Assumes nothing.
 use Prim.Native.Nat.{ℕ, _+_}
+use mathlib.Core.Path.{_≡_}
 use mathlib.Core.Bool.{Bool, cond, _&&_, _||_}
 use mathlib.Core.List.{List}
 use lib.Dec.{eqb, leb}
 use lib.ListN.{getD}
 use Rattle.calendar.specs.Said.{Said, answer, refused}
-use Rattle.meter.specs.Lent.{inside, reads, Writes}
+use Rattle.meter.specs.Lent.{inside, reads, saidWritten, Writes}
 use Rattle.meter.specs.declared.integer.Written.{Written}
 use Rattle.meter.specs.Integer.{beAt, stored}
 use Rattle.meter.specs.Time.{isTime, bitsOf, timeAt}
@@ -56,3 +57,7 @@ putHeader a h =
 -- THE WRITER
 abbrev pub WritesHeader : List ℕ → Header → Written → List ℕ → Type 0
 WritesHeader room x r exit = Writes room 20 (isHeader x) (putHeader room x) r exit
+
+-- AND WHAT IT WROTE READS BACK
+abbrev pub HeaderBack : Header → Written → List ℕ → Type 0
+HeaderBack h r exit = saidWritten r ≡ answer 20 → headerReadAt exit 0 ≡ answer h

@@ -1,12 +1,13 @@
 -- Pointer records (01, "Record header, 20 bytes": "An IPR is exactly 27 bytes: header, target class, target group, target subclass, target
 -- offset (4 bytes, from the product's first byte)"; class 3). The target is not judged (01 leaves that to fault 12). Assumes nothing.
 use Prim.Native.Nat.{ℕ, _+_}
+use mathlib.Core.Path.{_≡_}
 use mathlib.Core.Bool.{Bool, _&&_}
 use mathlib.Core.List.{List}
 use lib.Dec.{eqb}
 use lib.ListN.{getD}
 use Rattle.calendar.specs.Said.{Said, answer, refused}
-use Rattle.meter.specs.Lent.{reads, Writes}
+use Rattle.meter.specs.Lent.{reads, saidWritten, Writes}
 use Rattle.meter.specs.declared.integer.Written.{Written}
 use Rattle.meter.specs.Integer.{beAt, stored}
 use Rattle.record.specs.Header.{isHeader, headerAt, putHeader}
@@ -40,3 +41,7 @@ putPointer a p =
 -- THE WRITER
 abbrev pub WritesPointer : List ℕ → Pointer → Written → List ℕ → Type 0
 WritesPointer room x r exit = Writes room 27 (isPointer x) (putPointer room x) r exit
+
+-- AND WHAT IT WROTE READS BACK
+abbrev pub PointerBack : Pointer → Written → List ℕ → Type 0
+PointerBack p r exit = saidWritten r ≡ answer 27 → pointerReadAt exit 0 ≡ answer p

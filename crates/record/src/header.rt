@@ -12,7 +12,7 @@ ghost use lib.ListN.{length};
 ghost use Rattle.meter.specs.Integer.{beAt, stored};
 ghost use Rattle.meter.specs.Time.{isTime, bitsOf};
 ghost use Rattle.record.specs.Header.{sizeThere, isClass, isGroup, isLead, isHeader};
-ghost use Rattle.record.specs.Header.{headerReadAt, saidHeader, putHeader, WritesHeader};
+ghost use Rattle.record.specs.Header.{headerReadAt, saidHeader, putHeader, WritesHeader, HeaderBack};
 
 pub struct Header {
     pub class: u8,
@@ -185,6 +185,7 @@ pub(crate) fn put_header(room: &mut [u8], header: Header)
 
 pub fn write_header(room: &mut [u8], header: Header) -> Written
     ensures { λ r. ⌜ WritesHeader (now (room .entry)) header r (now (room .exit)) ⌝ }
+    ensures reads_back { λ r. ⌜ HeaderBack header r (now (room .exit)) ⌝ }
 {
     if !is_header(header) {
         return Written::Refused(Refusal {

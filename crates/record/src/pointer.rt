@@ -8,7 +8,7 @@ ghost use mathlib.Core.Bool.{true};
 ghost use Prim.Native.Nat.{_≤_};
 ghost use lib.ListN.{length};
 ghost use Rattle.record.specs.Header.{isHeader};
-ghost use Rattle.record.specs.Pointer.{isPointer, pointerReadAt, saidPointer, putPointer, WritesPointer};
+ghost use Rattle.record.specs.Pointer.{isPointer, pointerReadAt, saidPointer, putPointer, WritesPointer, PointerBack};
 
 // The header, then the target: its class, group and subclass, and its offset from the product's first byte.
 pub struct Pointer {
@@ -88,6 +88,7 @@ fn put_pointer(room: &mut [u8], pointer: Pointer)
 
 pub fn write_pointer(room: &mut [u8], pointer: Pointer) -> Written
     ensures { λ r. ⌜ WritesPointer (now (room .entry)) pointer r (now (room .exit)) ⌝ }
+    ensures reads_back { λ r. ⌜ PointerBack pointer r (now (room .exit)) ⌝ }
 {
     if !is_pointer(pointer) {
         return Written::Refused(Refusal {

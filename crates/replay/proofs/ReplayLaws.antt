@@ -16,7 +16,8 @@ use Rattle.watch.specs.Stands.{joined}
 use Rattle.watch.proofs.Laws.{unique-watched, stands-for-all}
 use Rattle.replay.specs.Layout.{numberAt, parts, lengthAt, answers, Three, threeAt, answerAt, sizeOf, threeOf, sums, lengthIn}
 use Rattle.replay.specs.Replay.{refusedAt, Answered, Agrees, Differs, Replayable, ReplayIs, missized, uneven, unsummed, none, first}
-use Rattle.replay.specs.Record.{Recordable, recordSize, Bytes, Records, RecordIs, unfit, no-room, written, Fed}
+use Rattle.meter.specs.Integer.{Bytes}
+use Rattle.replay.specs.Record.{Recordable, recordSize, Records, RecordIs, unfit, no-room, written, Fed}
 use Rattle.replay.specs.declared.run.Replayed.{Replayed}
 use Rattle.replay.specs.declared.run.Replayed.the-variants as R
 use Rattle.replay.proofs.SumLaws.{sums-same}
@@ -131,7 +132,7 @@ by-numbers r q m x y l n f = ext-getD 0 r q (l ∙ sym n) (λ i h. go i (omega a
         let t = mod-lt i {m = 4} (omega arith) in
         let e : 4 * (i / 4) + i % 4 ≡ i = omega arith in
         subst (λ (p : ℕ). getD r p 0 ≡ getD q p 0) e
-        (bytes-same r q (4 * (i / 4)) (4 * (i / 4)) 4 (λ k u. x (4 * (i / 4) + k) (omega arith)) (λ k u. y (4 * (i / 4) + k) (omega arith)) (f (i / 4) (omega arith)) (i % 4) t)
+        (bytes-same r q (4 * (i / 4)) (4 * (i / 4)) 4 (λ k u. x (4 * (i / 4) + k)) (λ k u. y (4 * (i / 4) + k)) (f (i / 4) (omega arith)) (i % 4) t)
 
 of-three : (r q : List ℕ) (i j : ℕ) → threeAt r i ≡ threeAt q i → i ≤ j → j < i + 3 → numberAt r j ≡ numberAt q j
 of-three r q i j e l h = go (ℕ-discrete j i) (ℕ-discrete j (i + 1))

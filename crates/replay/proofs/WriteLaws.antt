@@ -1,10 +1,12 @@
 -- The room that the writer leaves is the record followed by what it kept of the room. Assumes nothing.
 use Prim.Native.Nat.{ℕ, _+_, _*_, _≤_, _<_}
+use native.Mathlib.Decide.{decLt}
 use native.Mathlib.Omega.{arith}
 use mathlib.Core.Path.{_≡_, sym, ap, _∙_, subst}
 use mathlib.Core.List.{List, _++_}
-use lib.ListN.{length, getD, take, drop, length-drop, take-append-drop}
+use lib.ListN.{length, getD, take, drop, length-drop, take-append-drop, List·getD-eq-default}
 use lib.Seq.{ext-getD, getD-take, getD-drop, length-take-le}
+use Rattle.meter.specs.Integer.{Bytes}
 use Rattle.meter.specs.declared.integer.Written.{Written}
 use Rattle.meter.specs.declared.integer.Written.the-variants as W
 use Rattle.meter.proofs.IntegerLaws.{beAt-same}
@@ -24,7 +26,7 @@ front-three a n j h =
     let z = front-number a n (j + 2) (omega arith) in
     cc
 
-module _ {ls b room room′ : List ℕ} (w : Recording ls b (length room)) (bytes : (i : ℕ) → getD room′ i 0 < 256) (p : PutsRecord ls b room room′) where
+module _ {ls b room room′ : List ℕ} (w : Recording ls b (length room)) (bytes : Bytes room′) (p : PutsRecord ls b room room′) where
   abbrev front : List ℕ
   front = take (recordSize ls) room′
 
@@ -34,9 +36,16 @@ module _ {ls b room room′ : List ℕ} (w : Recording ls b (length room)) (byte
   front-parts : numberAt front 0 ≡ length ls
   front-parts = front-number room′ (recordSize ls) 0 (omega arith) ∙ p .counted
 
+  front-byte : Bytes front
+  front-byte i = go (decLt i (recordSize ls))
+    where
+      go : Dec (i < recordSize ls) → getD front i 0 < 256
+      go (yes h) = omega (arith, getD-take (recordSize ls) room′ i 0 h, bytes i)
+      go (no h) = omega (arith, List·getD-eq-default front 0 {n = i} (omega (arith, front-long, h)))
+
   records : Records ls b front
   records = record {
-    bytes = λ i h. omega (arith, getD-take (recordSize ls) room′ i 0 (omega (arith, front-long)), bytes i);
+    bytes = front-byte;
     long = front-long;
     parts = front-parts;
     lengths = λ k h. front-number room′ (recordSize ls) (1 + k) (omega arith) ∙ p .lengths k h;

@@ -4,6 +4,7 @@ use Prim.Native.Nat.{ℕ, suc, _+_, _*_, _≤_, _<_}
 use mathlib.Core.Path.{_≡_}
 use mathlib.Core.List.{List, _++_}
 use lib.ListN.{length, getD, take, drop}
+use Rattle.meter.specs.Integer.{Bytes}
 use Rattle.meter.specs.declared.integer.Written.{Written}
 use Rattle.meter.specs.declared.integer.Written.the-variants as W
 use Rattle.judge.specs.declared.arrival.Arrival.{Arrival}
@@ -24,9 +25,6 @@ pub record Recordable (ls b : List ℕ) : Type 0 where
 -- the bytes of its record: 4 for each count, 4 for each length, 12 for each answer
 abbrev pub recordSize : List ℕ → ℕ
 recordSize ls = 8 + 16 * length ls
-
-abbrev pub Bytes : List ℕ → Type 0
-Bytes r = (i : ℕ) → i < length r → getD r i 0 < 256
 
 -- the bytes r are the record: these lengths, and after each part what the watch answers
 pub record Records (ls b r : List ℕ) : Type 0 where

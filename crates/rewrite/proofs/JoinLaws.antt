@@ -19,7 +19,7 @@ use Rattle.parts.proofs.Built.{bytes-joined, meets-built}
 use Rattle.parts.proofs.PassLaws.{one-join, pass-product, pass-mdrs, pass-variables, pass-globals, pass-sphr, pass-three}
 use Rattle.parts.proofs.GranuleLaws.{alike-granules, in-time-granules}
 use Rattle.rewrite.specs.Cut.{refusedAt}
-use Rattle.rewrite.specs.Join.{PartsJoin, unlike, out-of-time, too-much, no-room, written, JoinIs, first-unfit, second-unfit, both}
+use Rattle.rewrite.specs.Join.{PartsJoin, unlike, out-of-time, too-much, no-room, written, JoinIs, first-unfit, second-unfit, both, JoinResult}
 
 -- ---- NO SECOND ANSWER FITS, of two products
 one-parts : {i : Bool} {m n : List ℕ} {rs ss : List (List ℕ)} {room : List ℕ} {r s : Written} {x y : List ℕ} → PartsJoin i m n rs ss room r x → PartsJoin i m n rs ss room s y → (r ≡ s) × (x ≡ y)
@@ -80,18 +80,7 @@ join-refusal-keeps r s e (both t u p) = go e p
     go e (no-room _ _ _ _) = refl
     go e (written c _ _ _ _ _) = absurd (let z : _≡_ {A = ℕ} 0 1 = cc in omega arith)
 
--- ---- WHAT IS WRITTEN, of k bytes: the join of the two products, and then what the room held
-pub record JoinResult (i : Bool) (a b room : List ℕ) (k : ℕ) (exit : List ℕ) : Type 0 where
-  pub text : List ℕ
-  pub first : Meets a
-  pub second : Meets b
-  pub alike : Alike i (mainOf a) (mainOf b) (recordsAt a (first .list)) (recordsAt b (second .list))
-  pub in-time : InTime i (recordsAt a (first .list)) (recordsAt b (second .list))
-  pub joinable : Joinable (mainOf a) (mainOf b) (recordsAt a (first .list)) (recordsAt b (second .list))
-  pub join : IsJoin (mainOf a) (mainOf b) (recordsAt a (first .list)) (recordsAt b (second .list)) text
-  pub long : k ≡ joinSize (mainOf a) (recordsAt a (first .list)) (recordsAt b (second .list))
-  pub stands : exit ≡ text ++ drop k room
-
+-- ---- WHAT IS WRITTEN
 pub join-written : {i : Bool} {a b room exit : List ℕ} (k : ℕ) (s : Written) → s ≡ W.Bytes k → JoinIs i a b room s exit → JoinResult i a b room k exit
 join-written k s e (first-unfit q _) = absurd (let z : _≡_ {A = ℕ} 0 1 = cc in omega arith)
 join-written k s e (second-unfit q _ _) = absurd (let z : _≡_ {A = ℕ} 0 1 = cc in omega arith)

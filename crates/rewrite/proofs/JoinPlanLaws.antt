@@ -28,7 +28,8 @@ use Rattle.parts.proofs.Built.{bytes-joined, meets-built}
 use Rattle.parts.proofs.OnlyLaws.{only-in}
 use Rattle.parts.proofs.Assembled.{assembled-bytes}
 use Rattle.parts.proofs.CutLaws.{of-class, in-classes}
-use Rattle.parts.proofs.CutHeaderLaws.{Bytes, parts-byte}
+use Rattle.meter.specs.Integer.{Bytes}
+use Rattle.parts.proofs.CutHeaderLaws.{parts-byte}
 use Rattle.rewrite.specs.declared.sections.Sections.{Sections}
 use Rattle.rewrite.specs.Table.{Holds}
 use Rattle.rewrite.specs.Emitting.{pointersFrom, PutsText}

@@ -1,26 +1,30 @@
--- THE CUT'S ANSWERS: no second answer and no second room fit; a refusal leaves the room as it came; what is written is the cut, and then what the room
--- held. By cases on the answers: the window, the judge's answer and the plan each decide. Assumes nothing.
+-- THE CUT'S ANSWERS: no second answer and no second room fit; a refusal leaves the room as it came; what is written is the cut, which the
+-- verdict accepts, and then what the room held. By cases on the answers: the window, the judge's answer and the plan each decide. Assumes nothing.
 use Prim.Native.Nat.{ℕ, suc, _+_, _≤_, _<_}
 use native.Mathlib.Omega.{arith}
 use mathlib.Core.Path.{_≡_, refl, sym, ap, subst, _∙_}
 use mathlib.Core.Bool.{Bool, true, false, true≢false}
 use mathlib.Core.List.{List, _++_}
-use lib.ListN.{length, drop}
+use lib.ListN.{length, take, drop, length-append}
+use lib.Seq.{take-at}
 use Rattle.calendar.specs.declared.Refusal.{Refusal}
 use Rattle.meter.specs.declared.integer.Written.{Written}
 use Rattle.meter.specs.declared.integer.Written.the-variants as W
 use Rattle.finish.specs.Finish.{VerdictIs}
+use Rattle.finish.specs.declared.Finished.{Finished}
 use Rattle.finish.specs.declared.Finished.the-variants as F
 use Rattle.demands.specs.Product.{Meets}
 use Rattle.demands.proofs.Accepted.{meets-fit, one-refused}
-use Rattle.parts.specs.Parts.{bytes, mainOf, recordsAt}
+use Rattle.demands.proofs.Verdict.{product-verdict}
+use Rattle.parts.specs.Parts.{joined, bytes, mainOf, recordsAt}
 use Rattle.parts.specs.Cut.{Window, Inside, isWindow}
 use Rattle.parts.specs.Rewritten.{Holdable}
 use Rattle.parts.specs.TownCut.{cutRecords, IsCut}
-use Rattle.parts.proofs.CutHeaderLaws.{Bytes}
+use Rattle.meter.specs.Integer.{Bytes}
+use Rattle.parts.proofs.Built.{bytes-joined}
 use Rattle.parts.proofs.Narrower.{one-cut, cut-of-cut-records, cut-of-cut}
 use Rattle.parts.proofs.TownLaws.{town-product}
-use Rattle.rewrite.specs.Cut.{refusedAt, cutSize, CutIs, no-window, unfit, too-much, no-room, written}
+use Rattle.rewrite.specs.Cut.{refusedAt, cutSize, CutIs, no-window, unfit, too-much, no-room, written, Result}
 use Rattle.rewrite.proofs.PlanLaws.{same-records}
 
 -- ---- what cannot be together
@@ -91,16 +95,7 @@ refusal-keeps r s e (too-much _ _ _) = refl
 refusal-keeps r s e (no-room _ _ _ _) = refl
 refusal-keeps r s e (written t b _ _ _ _ _) = absurd (let z : _≡_ {A = ℕ} 0 1 = cc in omega arith)
 
--- ---- WHAT IS WRITTEN, of n bytes: the cut, and then what the room held; so the laws of TownLaws hold of it
-pub record Result (a : List ℕ) (w : Window) (room : List ℕ) (n : ℕ) (exit : List ℕ) : Type 0 where
-  pub text : List ℕ
-  pub cut : IsCut a w text
-  pub product : Meets text
-  pub holdable : Holdable (cutRecords a w (cut .product))
-  pub long : n ≡ cutSize a w (cut .product)
-  pub fits : n ≤ length room
-  pub stands : exit ≡ text ++ drop n room
-
+-- ---- WHAT IS WRITTEN: the cut, so that the laws of TownLaws hold of it
 pub written-is : {a : List ℕ} {w : Window} {room exit : List ℕ} (n : ℕ) (s : Written) → s ≡ W.Bytes n → CutIs a w room s exit → Result a w room n exit
 written-is n s e (no-window _) = absurd (let z : _≡_ {A = ℕ} 0 1 = cc in omega arith)
 written-is n s e (unfit q _ _) = absurd (let z : _≡_ {A = ℕ} 0 1 = cc in omega arith)
@@ -120,6 +115,19 @@ written-is {a} {w} {room} n s e (written t b d h l c m) =
   where
     bytes-of : {i j : ℕ} → W.Bytes i ≡ W.Bytes j → i ≡ j
     bytes-of e = cc
+
+-- ---- "The result is accepted", of what the cut left in the room: whatever the verdict answers of those bytes, it accepts them
+pub left-is : {a : List ℕ} {w : Window} {room exit : List ℕ} {n : ℕ} (x : Result a w room n exit) → take n exit ≡ x .text
+left-is {a} {w} {room} {exit} {n} x =
+    let c = x .cut in
+    let ps = cutRecords a w (c .product) in
+    let l : length (x .text) ≡ n = ap length (c .whole) ∙ length-append (c .header) (joined ps) ∙ omega (arith, c .lines .long, bytes-joined ps, x .long) in
+    ap (take n) (x .stands) ∙ take-at (x .text) (drop n room) n l
+
+pub written-accepted : {a : List ℕ} {w : Window} {room exit : List ℕ} {n : ℕ} → CutIs a w room (W.Bytes n) exit → (r : Finished) → VerdictIs (take n exit) r → (c : ℕ) × (r ≡ F.Accepted c)
+written-accepted {n = n} c r v =
+    let x = written-is n (W.Bytes n) refl c in
+    (suc (length (x .product .list)), product-verdict (x .text) (x .product) r (subst (λ (b : List ℕ). VerdictIs b r) (left-is x) v))
 
 -- ---- A CUT OF A CUT: what is right to answer of b, the cut of a by v, and a window that lies inside v, is right to answer of a and that window; so the
 -- two answers are one (`unique-cut`), refusals too

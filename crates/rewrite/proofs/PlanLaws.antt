@@ -27,7 +27,8 @@ use Rattle.parts.proofs.Built.{bytes-joined, meets-built}
 use Rattle.parts.proofs.OnlyLaws.{only-in}
 use Rattle.parts.proofs.CutLaws.{of-class, kept-range}
 use Rattle.parts.proofs.Assembled.{assembled-bytes}
-use Rattle.parts.proofs.CutHeaderLaws.{Bytes, parts-byte}
+use Rattle.meter.specs.Integer.{Bytes}
+use Rattle.parts.proofs.CutHeaderLaws.{parts-byte}
 use Rattle.parts.proofs.Sections.{sections}
 use Rattle.parts.proofs.WalkLaws.{walk-length, walk-first}
 use Rattle.parts.proofs.TownLaws.{town-product}

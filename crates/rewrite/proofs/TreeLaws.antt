@@ -20,7 +20,8 @@ use Rattle.parts.proofs.PassLaws.{pass-main, pass-records}
 use Rattle.parts.proofs.PassOfLaws.{one-pass, Tells, tells-one, join-pass, join-tells}
 use Rattle.rewrite.specs.Join.{JoinIs}
 use Rattle.rewrite.specs.Tree.{Tree, granule, join, granules, Writes, alone, joined}
-use Rattle.rewrite.proofs.JoinLaws.{JoinResult, join-written, join-sized}
+use Rattle.rewrite.specs.Join.{JoinResult}
+use Rattle.rewrite.proofs.JoinLaws.{join-written, join-sized}
 
 -- ---- the parts of each granule, where it is a product
 data Each : List (List ℕ) → List Granule → Type 0 where

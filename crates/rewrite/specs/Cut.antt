@@ -33,3 +33,13 @@ pub data CutIs (a : List ℕ) (w : Window) (room : List ℕ) : Written → List 
   written :
       (t : Meets a) (b : List ℕ) → isWindow w ≡ true → Holdable (cutRecords a w t) → cutSize a w t ≤ length room → IsCut a w b → Meets b
       → CutIs a w room (W.Bytes (cutSize a w t)) (b ++ drop (cutSize a w t) room)
+
+-- WHAT WAS WRITTEN, of n bytes: the cut, and then what the room held
+pub record Result (a : List ℕ) (w : Window) (room : List ℕ) (n : ℕ) (exit : List ℕ) : Type 0 where
+  pub text : List ℕ
+  pub cut : IsCut a w text
+  pub product : Meets text
+  pub holdable : Holdable (cutRecords a w (cut .product))
+  pub long : n ≡ cutSize a w (cut .product)
+  pub fits : n ≤ length room
+  pub stands : exit ≡ text ++ drop n room

@@ -2,6 +2,7 @@
 -- in request Three and also for a sum that doesn't fit its field (place 0), 18"). The result stands at the start of the room and the rest is kept; a
 -- refusal writes nothing. The same of both joins, request Seven's (`identical`) and that of a pass (`granules`). Assumes nothing.
 use Prim.Native.Nat.{ℕ, _≤_, _<_}
+use mathlib.Core.Path.{_≡_}
 use mathlib.Core.Bool.{Bool}
 use mathlib.Core.List.{List, _++_}
 use lib.ListN.{length, drop}
@@ -33,3 +34,15 @@ pub data JoinIs (i : Bool) (a b : List ℕ) (room : List ℕ) : Written → List
   both :
       {r : Written} {exit : List ℕ} (t : Meets a) (u : Meets b) → PartsJoin i (mainOf a) (mainOf b) (recordsAt a (t .list)) (recordsAt b (u .list)) room r exit
       → JoinIs i a b room r exit
+
+-- WHAT WAS WRITTEN, of k bytes: the join of the two products, and then what the room held
+pub record JoinResult (i : Bool) (a b room : List ℕ) (k : ℕ) (exit : List ℕ) : Type 0 where
+  pub text : List ℕ
+  pub first : Meets a
+  pub second : Meets b
+  pub alike : Alike i (mainOf a) (mainOf b) (recordsAt a (first .list)) (recordsAt b (second .list))
+  pub in-time : InTime i (recordsAt a (first .list)) (recordsAt b (second .list))
+  pub joinable : Joinable (mainOf a) (mainOf b) (recordsAt a (first .list)) (recordsAt b (second .list))
+  pub join : IsJoin (mainOf a) (mainOf b) (recordsAt a (first .list)) (recordsAt b (second .list)) text
+  pub long : k ≡ joinSize (mainOf a) (recordsAt a (first .list)) (recordsAt b (second .list))
+  pub stands : exit ≡ text ++ drop k room

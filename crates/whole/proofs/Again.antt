@@ -14,7 +14,7 @@ use Rattle.meter.specs.General.{digitsOf, putGeneral}
 use Rattle.meter.proofs.GeneralRuns.{and-true}
 use Rattle.meter.proofs.GeneralWrite.{x-are}
 use Rattle.record.specs.Header.{headerAt, headerReadAt, putHeader}
-use Rattle.record.specs.Pointer.{isPointer, pointerAt, pointerReadAt, putPointer}
+use Rattle.record.specs.Pointer.{pointerAt, pointerReadAt, putPointer}
 use Rattle.record.proofs.ReadsBack.{header-again, pointer-again}
 use Rattle.text.specs.Field.{isX, isNumber, integerOf, numberAt, isValue}
 use Rattle.text.specs.Writing.{putText, putNumber}
@@ -34,15 +34,16 @@ use Rattle.parts.specs.Rewritten.{valueOf}
 use Rattle.parts.proofs.Built.{parts-of, meets-built}
 use Rattle.parts.proofs.Unique.{one-header}
 use Rattle.parts.proofs.Local.{At, at-right}
-use Rattle.whole.specs.Values.{Value, text, number, time, plain, pointer, Values, room, put, lineOf, linesFrom, mainOf, recOf, joined, print, Bytes, fits, RightHeader, RightPointer, RightRec, lineIn, Right}
+use Rattle.meter.specs.Integer.{Bytes}
+use Rattle.whole.specs.Values.{Value, text, number, time, plain, pointer, Values, room, put, lineOf, linesFrom, mainOf, recOf, joined, print, fits, RightHeader, RightPointer, RightRec, lineIn, Right}
 use Rattle.whole.specs.Spelled.{Plain, Spelled, Canonical}
 use Rattle.whole.specs.Parse.{valueAt, lineAt, recAt, recsAt, parseAt}
-use Rattle.whole.proofs.Heads.{room-long, header-long, pointer-long}
+use Rattle.whole.proofs.Heads.{pointer-form, room-long, header-long, pointer-long}
 use Rattle.whole.proofs.Lines.{line-long}
 use Rattle.whole.proofs.Numbers.{whole-again}
 use Rattle.whole.proofs.Moments.{general-again}
 use Rattle.whole.proofs.Printed.{main-long, main-line, main-header}
-use Rattle.whole.proofs.Parsed.{left-true, and-is, right-rec, records-le, line-in, parse-right}
+use Rattle.whole.proofs.Parsed.{left-true, right-rec, records-le, line-in, parse-right}
 
 -- ---- WHERE A VALUE STANDS
 abbrev pub valueRoom : ℕ → List ℕ
@@ -121,14 +122,10 @@ module _ (a : List ℕ) (bs : Bytes a) where
       let u : j < 20 = omega (arith, header-long (headerAt a i)) in
       header-again (room 20) a i (headerAt a i) bs (omega (arith, room-long 20)) e j u ∙ sym (getD-take 20 (drop i a) j 0 u ∙ getD-drop i a j 0))
 
-  is-pointer : (i : ℕ) → RightPointer (pointerAt a i) → isPointer (pointerAt a i) ≡ true
-  unfolding isPointer
-  is-pointer i r = and-is (r .header .form) (rw (r .is-class, r .is-size))
-
   pointer-is : (i : ℕ) → RightPointer (pointerAt a i) → i + 27 ≤ length a → putPointer (room 27) (pointerAt a i) ≡ take 27 (drop i a)
   pointer-is i r l =
       let n : length (take 27 (drop i a)) ≡ 27 = length-take-le 27 (drop i a) (omega (arith, length-drop i a)) in
-      let e : pointerReadAt a i ≡ answer (pointerAt a i) = rw (le-leb (i + 27) (length a) l, is-pointer i r) in
+      let e : pointerReadAt a i ≡ answer (pointerAt a i) = rw (le-leb (i + 27) (length a) l, pointer-form r) in
       ext (putPointer (room 27) (pointerAt a i)) (take 27 (drop i a)) (pointer-long (pointerAt a i) ∙ sym n) (λ j h.
       let u : j < 27 = omega (arith, pointer-long (pointerAt a i)) in
       pointer-again (room 27) a i (pointerAt a i) bs (omega (arith, room-long 27)) e j u ∙ sym (getD-take 27 (drop i a) j 0 u ∙ getD-drop i a j 0))

@@ -2,9 +2,8 @@
 -- query has a right answer of a product, and the one is the other's. Assumes nothing.
 use mathlib.Core.Path.{_≡_, refl, sym, ap, _∙_}
 use mathlib.Core.Bool.{true, false}
-use mathlib.Core.Logic.{inl, inr}
 use mathlib.Core.List.{List, []}
-use Prim.Native.Nat.{ℕ, zero, suc, _+_, _-_, _≤_, _<_}
+use Prim.Native.Nat.{ℕ, suc, _+_, _-_, _≤_, _<_}
 use native.Mathlib.Decide.{ℕ-discrete}
 use native.Mathlib.Omega.{arith}
 use borrow.Author.Tests.{eq-eqb, ne-eqb}
@@ -20,20 +19,20 @@ use Rattle.text.specs.declared.Kind.{Kind}
 use Rattle.text.specs.declared.Kind.the-variants.{Text, Unsigned, Count, Signed, Time, LongTime}
 use Rattle.mphr.specs.Layout.{widthOf, kindOf, lineStart}
 use Rattle.judge.specs.Table.{Open}
-use Rattle.judge.specs.declared.arrival.Arrival.the-variants.{Waiting}
 use Rattle.demands.specs.Product.{class, size, Meets}
 use Rattle.demands.specs.Demands.{start}
-use Rattle.demands.proofs.Prefix.{unique-arrival}
 use Rattle.demands.proofs.Accept.{complete-covered}
 use Rattle.demands.proofs.Accepted.{meets-complete, covers}
-use Rattle.demands.proofs.Counting.{later, ends-whole}
-use Rattle.query.specs.Query.{StartOf, RecordFound, NoRecord, not-yet, RecordIs, sortOf, numberIn, timeIn}
+use Rattle.demands.proofs.Counting.{ends-whole}
+use Rattle.query.specs.Query.{RecordFound, NoRecord, not-yet, RecordIs, sortOf, numberIn, timeIn}
 use Rattle.query.specs.Query as Q
 use Rattle.query.specs.declared.RecordAnswer.the-variants.{Record, Refused}
 use Rattle.query.specs.declared.NumberAnswer.the-variants as B
 use Rattle.query.specs.declared.TimeAnswer.the-variants as T
-use Rattle.query.proofs.QueryDetermined.{one-start}
-use Rattle.whole.specs.Values.{Value, text, number, time, Rec, plain, pointer, Values, Bytes, print}
+use Rattle.query.proofs.QueryDetermined.{one-start, one-count}
+use Rattle.query.proofs.QuerySays.{started}
+use Rattle.meter.specs.Integer.{Bytes}
+use Rattle.whole.specs.Values.{Value, text, number, time, Rec, plain, pointer, Values, print}
 use Rattle.whole.specs.Spelled.{Canonical}
 use Rattle.whole.specs.Parse.{valueAt, lineAt, linesAt, recAt, recsAt, parseAt}
 use Rattle.whole.specs.Answers.{startOf}
@@ -43,11 +42,6 @@ use Rattle.whole.proofs.Again.{print-parse}
 use Rattle.whole.proofs.Answers.{field-allowed, time-allowed, said-starts, nth-start, nth-rec, nth-come, answers}
 
 -- ---- A RECORD THAT IS THERE IS ANSWERED
-pub started : {a : List ℕ} {c e : ℕ} → Open a c e → (k : ℕ) → k < c → StartOf a k (start a k)
-unfolding start
-started o zero h = inl (refl, refl)
-started o (suc k) h = let n = later o (suc k) (omega arith) h .1 in inr (record { spot = n .spot; way = n .way; numbered = n .numbered; begins = n .begins })
-
 module _ (a : List ℕ) (m : Meets a) where
   pub record Counts : Type 0 where
     pub end : ℕ
@@ -63,9 +57,6 @@ module _ (a : List ℕ) (m : Meets a) where
 
   record-not : RecordIs a (suc (length (m .list))) (Refused (refusing 19 (suc (length (m .list)))))
   record-not = not-yet (counts .all) (omega arith)
-
-pub one-count : (a : List ℕ) (c e d f : ℕ) → Open a c e → Open a d f → c ≡ d
-one-count a c e d f o p = let z = unique-arrival a (Waiting c e) (Waiting d f) o p in cc
 
 counted : (a : List ℕ) (m : Meets a) (k c : ℕ) → NoRecord a k 19 c → suc (length (m .list)) ≡ c
 counted a m k c (Q.NoRecord.faulty g) = absurd (not-clean g (meets-complete m .clean))

@@ -7,9 +7,8 @@ use Prim.Native.Nat.{ℕ, zero, suc, _+_, _-_, _≤_, _<_}
 use native.Mathlib.Omega.{arith}
 use borrow.Author.Tests.{le-leb}
 use lib.Dec.{eqb}
-use lib.ListN.{length, getD, take, drop, replicate, length-replicate, take-append-drop}
+use lib.ListN.{length, getD, take, drop, replicate, length-replicate}
 use Rattle.calendar.specs.Said.{answer}
-use Rattle.tables.proofs.Laws.{stays-clean}
 use Rattle.meter.specs.General.{digitsOf, generalAt}
 use Rattle.meter.specs.declared.general.General.{General}
 use Rattle.record.specs.Header.{headerAt}
@@ -24,12 +23,11 @@ use Rattle.text.specs.declared.Number.the-variants as N
 use Rattle.mphr.specs.Layout.{bytesOf, widthOf, kindOf, lineStart}
 use Rattle.mphr.specs.Lines.{isLong}
 use Rattle.mphr.specs.Table.{declared}
-use Rattle.judge.specs.Table.{Clean, table, classAt, sizeAt}
+use Rattle.judge.specs.Table.{classAt, sizeAt}
 use Rattle.judge.specs.Table.{Judged}
 use Rattle.judge.specs.declared.arrival.Arrival.{Arrival}
 use Rattle.judge.specs.declared.arrival.Arrival.the-variants.{Waiting}
 use Rattle.judge.specs.Extent.{Covered}
-use Rattle.judge.proofs.Local.{lawful}
 use Rattle.finish.specs.Rows as Rows
 use Rattle.finish.specs.Rows.{rowsAfter, rowsOf}
 use Rattle.finish.specs.Finish.{put, starts, VerdictIs, FinishedIs, Accepts}
@@ -41,7 +39,7 @@ use Rattle.demands.proofs.Accept.{complete-covered}
 use Rattle.demands.proofs.Accepted.{meets-complete, covers, meets-accepted, unique-verdict}
 use Rattle.demands.proofs.Prefix.{unique-arrival}
 use Rattle.demands.proofs.Counting.{main-size, ends-whole, indexed}
-use Rattle.query.specs.Query.{mainPart, sortOf, timesOf, Allowed, valueStart, TextIs, numberIn, NumberIs, TimeIs, latitudeField, pointOf, PointIs, PointFound, RecordIs}
+use Rattle.query.specs.Query.{sortOf, timesOf, Allowed, valueStart, TextIs, numberIn, NumberIs, TimeIs, latitudeField, pointOf, PointIs, PointFound, RecordIs}
 use Rattle.query.specs.declared.RecordAnswer.{RecordAnswer}
 use Rattle.query.specs.declared.RecordAnswer.the-variants.{Record}
 use Rattle.query.specs.declared.FieldAnswer.{FieldAnswer}
@@ -53,13 +51,15 @@ use Rattle.query.specs.declared.TimeAnswer.the-variants as T
 use Rattle.query.specs.declared.PointAnswer.{PointAnswer}
 use Rattle.query.proofs.QueryDetermined.{unique-text-field, unique-number-field, unique-time-of, unique-ground-point}
 use Rattle.query.proofs.QuerySays.{query-says}
+use Rattle.query.proofs.LineAnswers.{come, main-clean}
 use Rattle.listing.specs.Decimal.{column}
 use Rattle.listing.specs.Listing.{line, lines, ListedIs, Lists}
 use Rattle.listing.specs.Listing as Li
 use Rattle.listing.specs.declared.Listed.{Listed}
 use Rattle.listing.specs.declared.Listed.the-variants as L
 use Rattle.listing.proofs.Determined.{unique-list}
-use Rattle.whole.specs.Values.{Value, text, number, time, Rec, plain, pointer, Values, Bytes, lineIn, print, RightRec, RightPointer, Right}
+use Rattle.meter.specs.Integer.{Bytes}
+use Rattle.whole.specs.Values.{Value, text, number, time, Rec, plain, pointer, Values, lineIn, print, RightRec, RightPointer, Right}
 use Rattle.whole.specs.Parse.{valueAt, lineAt, recAt, recsAt, parseAt}
 use Rattle.whole.specs.Answers.{heads, headsOf, startsFrom, startOf, ordinal, rowsFrom, linesFrom, listed, Answers}
 use Rattle.whole.proofs.Parsed.{records-le, and-is, rec-head, recs-length, line-in, parse-right}
@@ -164,17 +164,11 @@ chain-lines {a} (step {i = i} {l = l} c) = rw (chain-lines c)
 
 -- ---- OF A PRODUCT
 module _ (a : List ℕ) (m : Meets a) where
-  pub come : 3307 ≤ length a
-  come = meets-complete m .header
-
-  pub main-clean : Clean (mainPart a)
-  main-clean = let e = take-append-drop 3307 a in stays-clean table lawful (take 3307 a) (drop 3307 a) (rw e (meets-complete m .clean))
-
   pub field-allowed : (k : ℕ) (d : Kind) → k < 72 → sortOf (kindOf k) ≡ sortOf d → Allowed a k (sortOf d)
-  field-allowed k d h e = record { clean = main-clean; come = come; field = record { known = omega arith; sorted = e } }
+  field-allowed k d h e = record { clean = main-clean m; come = come m; field = record { known = omega arith; sorted = e } }
 
   pub time-allowed : (k : ℕ) (long : Bool) → k < 72 → sortOf (kindOf k) ≡ timesOf long → Allowed a k (timesOf long)
-  time-allowed k long h e = record { clean = main-clean; come = come; field = record { known = omega arith; sorted = e } }
+  time-allowed k long h e = record { clean = main-clean m; come = come m; field = record { known = omega arith; sorted = e } }
 
   line-is : (k : ℕ) → k < 72 → (x : Value) → lineIn (parseAt a (m .list)) k ≡ x → valueAt (kindOf k) a (lineStart k + 32) (widthOf k) ≡ x
   unfolding lineAt

@@ -38,7 +38,8 @@ use Rattle.parts.proofs.Unique.{one-header}
 use Rattle.parts.specs.Rewritten.{valueOf}
 use Rattle.whole.specs.Values.{Value, text, number, time, Rec, plain, pointer, Values, room, put, linesFrom, mainOf, recOf, joined, print, fits, RightRec, lineIn, Right}
 use Rattle.whole.specs.Assembled.{Has, LineIn, HeaderIn, PointerIn, RecIn, RecsIn, Assembled}
-use Rattle.whole.proofs.Heads.{fieldsOf, pointerFields, header-fields, pointer-fields, room-long, header-long, pointer-long}
+use Rattle.record.proofs.ReadsBack.{fieldsOf, pointerFields, header-fields, pointer-fields}
+use Rattle.whole.proofs.Heads.{room-long, header-long, pointer-long}
 use Rattle.whole.proofs.OfBytes.{header-bytes, pointer-bytes}
 use Rattle.whole.proofs.Numbers.{whole-plain, whole-again}
 use Rattle.whole.proofs.Moments.{general-zed, general-again}

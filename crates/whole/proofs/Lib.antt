@@ -17,3 +17,4 @@ pub mod Saying
 pub mod Respelled
 pub mod SameBut
 pub mod Example
+pub mod Sample

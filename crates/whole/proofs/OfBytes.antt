@@ -10,7 +10,7 @@ use lib.Dec.{eqb, ltb}
 use lib.IntN.{natAbs}
 use lib.ListN.{length, getD, set, take, drop, length-take, List·getD-append, List·getD-eq-default as past, getD-replicate, length-replicate}
 use lib.Seq.{getD-set-same, getD-set-other, set-out, getD-append-add, getD-take, getD-drop}
-use Rattle.meter.specs.Integer.{stored}
+use Rattle.meter.specs.Integer.{Bytes, stored}
 use Rattle.meter.specs.General.{digitsOf, putDigits, putMoment, putX, putGeneral}
 use Rattle.meter.specs.Time.{bitsOf}
 use Rattle.meter.specs.declared.general.General.{General}
@@ -28,7 +28,7 @@ use Rattle.mphr.specs.Layout.{fields, rows, names, widthOf, kindOf}
 use Rattle.mphr.specs.Lines.{isLong, putName, putFrame}
 use Rattle.mphr.specs.NameTable.{all}
 use Rattle.mphr.proofs.WritingLaws.{is-text}
-use Rattle.whole.specs.Values.{Value, text, number, time, Rec, plain, pointer, Values, room, put, lineOf, linesFrom, mainOf, recOf, joined, print, Bytes, fits, RightRec, Right}
+use Rattle.whole.specs.Values.{Value, text, number, time, Rec, plain, pointer, Values, room, put, lineOf, linesFrom, mainOf, recOf, joined, print, fits, RightRec, Right}
 
 -- ---- lists of bytes
 record Of (a : List ℕ) : Type 0 where

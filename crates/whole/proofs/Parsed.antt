@@ -11,7 +11,7 @@ use lib.Dec.{T, eqb, leb, ltb}
 use lib.ListN.{length, getD, take, drop, length-take, length-drop, List·getD-eq-default as past}
 use lib.Seq.{length-take-le, getD-take, getD-drop}
 use Rattle.calendar.proofs.Range.{below, at}
-use Rattle.meter.specs.Integer.{beAt}
+use Rattle.meter.specs.Integer.{Bytes, beAt}
 use Rattle.meter.specs.Time.{isTime, timeAt, compared}
 use Rattle.meter.specs.General.{numberOf, digitsOf}
 use Rattle.meter.specs.declared.time.Time.the-variants as Ti
@@ -39,7 +39,8 @@ use Rattle.demands.specs.Product.{class, group, size, offset, IsRecord, Aims, R
 use Rattle.demands.proofs.ProductLaws.{alike-bytes}
 use Rattle.parts.proofs.HeaderLaws.{two-least}
 use Rattle.judge.proofs.RankLaws.{class-most}
-use Rattle.whole.specs.Values.{Value, text, number, time, Rec, plain, pointer, headOf, Bytes, fits, InDays, RightHeader, RightPlain, RightPointer, RightRec, Ordered, Meant, here, there, Aimed, bytes, count, lineIn, whole, Right}
+use Rattle.meter.specs.Time.{InDays}
+use Rattle.whole.specs.Values.{Value, text, number, time, Rec, plain, pointer, headOf, fits, RightHeader, RightPlain, RightPointer, RightRec, Ordered, Meant, here, there, Aimed, bytes, count, lineIn, whole, Right}
 use Rattle.whole.specs.Values as Say
 use Rattle.whole.specs.Parse.{valueAt, lineAt, linesAt, recAt, recsAt, parseAt}
 use Rattle.whole.proofs.Numbers.{spelled-of}

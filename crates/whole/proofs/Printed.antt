@@ -1,17 +1,17 @@
 -- THE FIRST LAW: the bytes of right values are a product. The main header fits the records, and the records tile the rest; so they are built, and what is
 -- built meets the format (parts' Built). Assumes nothing.
 use mathlib.Core.Path.{_≡_, refl, sym, ap, _∙_}
-use mathlib.Core.Bool.{Bool, true, false, cond, not, _&&_, _||_}
+use mathlib.Core.Bool.{Bool, true, false, cond, not, _&&_}
 use mathlib.Core.List.{List, [], _∷_, _++_, List·Memᴰ as In, List·Memᴰ·head as top, List·Memᴰ·tail as pop, List·Memᴰ·not-nil as nil}
 use Prim.Native.Nat.{ℕ, suc, _+_, _*_, _≤_, _<_}
 use native.Mathlib.Decide.{ℕ-discrete}
 use native.Mathlib.Omega.{arith}
-use borrow.Author.Tests.{ne-eqb, eqb-true, le-leb}
-use lib.Dec.{T, eqb, leb}
+use borrow.Author.Tests.{ne-eqb}
+use lib.Dec.{eqb}
 use lib.IntN.{pos, natAbs}
 use lib.ListN.{length, getD, length-append}
 use Rattle.calendar.specs.Said.{answer}
-use Rattle.calendar.proofs.Range.{below, at}
+use Rattle.calendar.proofs.Range.{at}
 use Rattle.meter.specs.Integer.{beAt}
 use Rattle.meter.specs.Time.{isTime, timeAt, compared}
 use Rattle.meter.specs.General.{numberOf}
@@ -34,8 +34,7 @@ use Rattle.demands.specs.Product.{MainHeader, class, group, kind, size, targetC
 use Rattle.parts.specs.Parts.{Own, Follows, Begins, Aim, Pointed, Tiles, Built}
 use Rattle.parts.specs.Parts as P
 use Rattle.parts.proofs.Built.{built-meets}
-use Rattle.parts.proofs.HeaderLaws.{one-sphr, follows-classes}
-use Rattle.parts.proofs.FollowLaws.{risen}
+use Rattle.parts.proofs.HeaderLaws.{one-sphr, follows-classes, one-class}
 use Rattle.parts.proofs.Unique.{first-line}
 use Rattle.parts.proofs.Local.{At, at-left, at-end}
 use Rattle.whole.specs.Values.{text, Rec, plain, pointer, Values, headOf, room, put, lineOf, linesFrom, mainOf, recOf, recsOf, joined, print, fits, RightHeader, RightPointer, RightRec, Ordered, Meant, here, there, Aims, Aimed, bytes, count, lineIn, whole, Right}
@@ -191,18 +190,6 @@ tiles : (v : Values) → Right v → Tiles (recsOf (v .records))
 tiles v r = record { own = owns (v .records) (r .records); order = follows 1 (v .records) (r .records) (r .order); pointed = pointed 3307 (v .records) (r .records) (r .pointers) }
 
 -- ---- each record is counted once
-abbrev ones : ℕ → ℕ
-ones k = cond (eqb k 2) 1 0 + cond (eqb k 3) 1 0 + cond (eqb k 4) 1 0 + cond (eqb k 5) 1 0 + cond (eqb k 6) 1 0 + cond (eqb k 7) 1 0 + cond (eqb k 8) 1 0
-
-abbrev oneTest : ℕ → Bool
-oneTest k = not (leb 2 k) || eqb (ones k) 1
-
-one-test : T (below oneTest 9)
-one-test = tt
-
-one-class : (k : ℕ) → 2 ≤ k → k ≤ 8 → ones k ≡ 1
-one-class k h l = eqb-true (ones k) 1 (risen (leb 2 k) (eqb (ones k) 1) (at oneTest 9 one-test k (omega arith)) (le-leb 2 k h))
-
 pub counts-all : (l : List Rec) → ((x : Rec) → In x l → (2 ≤ headOf x .class) × (headOf x .class ≤ 8)) → count 2 l + count 3 l + count 4 l + count 5 l + count 6 l + count 7 l + count 8 l ≡ length l
 counts-all [] h = refl
 counts-all (x ∷ l) h = let k = h x (top refl) in omega (arith, one-class (headOf x .class) (k .0) (k .1), counts-all l (λ y n. h y (pop n)))

@@ -1,30 +1,31 @@
 -- THE SAME BUT FOR SPELLING: products that say the same have the same bytes but in numbers and at the end of undefined times. A byte is of the main header's
 -- own 20, of a line's frame or value, or of the records after it. Assumes nothing.
 use mathlib.Core.Path.{_≡_, sym, ap, _∙_}
-use mathlib.Core.Bool.{Bool, true, false, _&&_}
+use mathlib.Core.Bool.{true, false}
 use mathlib.Core.Logic.{_⊎_, inl, inr}
 use mathlib.Core.List.{List}
-use Prim.Native.Nat.{ℕ, zero, suc, _+_, _-_, _*_, _≤_, _<_}
+use Prim.Native.Nat.{ℕ, _+_, _-_, _<_}
 use native.Mathlib.Decide.{decLt, ℕ-discrete}
 use native.Mathlib.Omega.{arith}
 use borrow.Author.Tests.{eqb-true}
 use lib.Dec.{eqb}
 use lib.ListN.{length, getD, take, drop, length-drop}
 use lib.Seq.{getD-take, getD-drop, drop-at, length-take-le}
-use Rattle.meter.specs.General.{lead, isNone}
-use Rattle.meter.proofs.GeneralRuns.{and-true, lead-below}
+use Rattle.meter.specs.General.{isNone}
+use Rattle.meter.proofs.GeneralRuns.{and-true}
 use Rattle.text.specs.Field.{isValue}
 use Rattle.text.specs.declared.Kind.{Kind}
 use Rattle.text.specs.declared.Kind.the-variants.{Text, Unsigned, Count, Signed, Time, LongTime}
-use Rattle.mphr.specs.Layout.{names, widthOf, kindOf, lineStart}
-use Rattle.mphr.specs.Table.{named, framed, valued}
+use Rattle.mphr.specs.Layout.{widthOf, kindOf, lineStart}
+use Rattle.mphr.specs.Table.{valued}
 use Rattle.mphr.proofs.LayoutLaws.{start-next, start-72}
 use Rattle.demands.specs.Product.{Meets}
 use Rattle.parts.specs.Parts.{recordsAt}
 use Rattle.parts.specs.Parts as P
 use Rattle.parts.proofs.Built.{parts-of}
-use Rattle.parts.proofs.Unique.{first-line}
-use Rattle.whole.specs.Values.{Values, mainOf, joined, print, Bytes, lineIn, Right}
+use Rattle.parts.proofs.Unique.{frame, line-of}
+use Rattle.meter.specs.Integer.{Bytes}
+use Rattle.whole.specs.Values.{Values, mainOf, joined, print, lineIn, Right}
 use Rattle.whole.specs.Spelled.{Canonical}
 use Rattle.whole.specs.Parse.{valueAt, lineAt, recsAt, parseAt, parse}
 use Rattle.whole.specs.Alike.{AnswersAs, InNumber, EndsNone, Respelled, SameBut, FormOf, NonMalleable}
@@ -37,42 +38,6 @@ use Rattle.whole.proofs.Saying.{answers-as}
 use Rattle.whole.proofs.Respelled.{but-says}
 use Rattle.whole.proofs.Starts.{parse-is}
 use Rattle.whole.proofs.Inverse.{inverse}
-
--- ---- the bytes of a line's frame
-record Frame (a : List ℕ) (k : ℕ) : Type 0 where
-  name : (j : ℕ) → j < 30 → getD a (lineStart k + j) 0 ≡ getD names (30 * k + j) 0
-  equals : getD a (lineStart k + 30) 0 ≡ 61
-  space : getD a (lineStart k + 31) 0 ≡ 32
-  feed : getD a (lineStart k + 32 + widthOf k) 0 ≡ 10
-
-frame : (a : List ℕ) (k : ℕ) → framed a k ≡ true → Frame a k
-unfolding framed named
-frame a k e =
-    let f : ℕ → Bool = λ (j : ℕ). eqb (getD a (lineStart k + j) 0) (getD names (30 * k + j) 0) in
-    let p = and-true (eqb (lead f 30) 30 && (eqb (getD a (lineStart k + 30) 0) 61 && eqb (getD a (lineStart k + 31) 0) 32)) _ e in
-    let q = and-true (eqb (lead f 30) 30) _ (p .0) in
-    let r = and-true (eqb (getD a (lineStart k + 30) 0) 61) _ (q .1) in
-    record {
-      name = λ j h. eqb-true _ _ (lead-below f 30 j (omega (arith, eqb-true (lead f 30) 30 (q .0))));
-      equals = eqb-true _ _ (r .0);
-      space = eqb-true _ _ (r .1);
-      feed = eqb-true _ _ (p .1);
-    }
-
--- the line that byte j is of
-record Line (j n : ℕ) : Type 0 where
-  line : ℕ
-  below : line < n
-  from : lineStart line ≤ j
-  to : j < lineStart (suc line)
-
-line-of : (j n : ℕ) → 20 ≤ j → j < lineStart n → Line j n
-line-of j zero h l = absurd (omega (arith, first-line))
-line-of j (suc n) h l = go (decLt j (lineStart n)) (line-of j n h)
-  where
-    go : Dec (j < lineStart n) → (j < lineStart n → Line j n) → Line j (suc n)
-    go (yes d) f = let k = f d in record { line = k .line; below = omega (arith, k .below); from = k .from; to = k .to }
-    go (no d) f = record { line = n; below = omega arith; from = omega (arith, d); to = l }
 
 -- ---- a value's bytes
 module _ (a b : List ℕ) (i w : ℕ) where

@@ -29,13 +29,17 @@ use Rattle.query.specs.declared.NumberAnswer.the-variants as B
 use Rattle.query.specs.declared.TimeAnswer.{TimeAnswer}
 use Rattle.query.specs.declared.TimeAnswer.the-variants as T
 use Rattle.query.proofs.QueryDetermined.{one-start}
-use Rattle.whole.specs.Values.{plain, pointer, Values, Bytes, headOf, lineIn}
+use Rattle.meter.specs.Integer.{Bytes}
+use Rattle.whole.specs.Values.{plain, pointer, Values, headOf, lineIn}
 use Rattle.whole.specs.Parse.{valueAt, lineAt, recAt, recsAt, parseAt}
 use Rattle.whole.specs.Answers.{headsOf, startsFrom, startOf}
 use Rattle.whole.specs.Alike.{AnswersAs}
 use Rattle.whole.proofs.Parsed.{rec-head, line-in, recs-length}
-use Rattle.whole.proofs.Answers.{same-text, same-number, same-time, main-clean, come, said-starts, nth-start, nth-rec, answers}
-use Rattle.whole.proofs.Alike.{started, counts, one-count, rec-pointer, rec-plain}
+use Rattle.query.proofs.LineAnswers.{come, main-clean}
+use Rattle.query.proofs.QueryDetermined.{one-count}
+use Rattle.query.proofs.QuerySays.{started}
+use Rattle.whole.proofs.Answers.{same-text, same-number, same-time, said-starts, nth-start, nth-rec, answers}
+use Rattle.whole.proofs.Alike.{counts, rec-pointer, rec-plain}
 
 same-payload : (h g : Header) (s t : List ℕ) → plain h s ≡ plain g t → s ≡ t
 same-payload h g s t e = cc
@@ -84,12 +88,12 @@ module _ (a b : List ℕ) (bs : Bytes a) (cs : Bytes b) (m : Meets a) (n : Meets
   value-same k h = sym (line-in a (m .list) k h) ∙ ap (λ (v : Values). lineIn v k) e ∙ line-in b (n .list) k h
 
   allowed-on : {k : ℕ} {sort : _} → Allowed a k sort → Allowed b k sort
-  allowed-on w = record { clean = main-clean b n; come = come b n; field = w .field }
+  allowed-on w = record { clean = main-clean n; come = come n; field = w .field }
 
   denied-on : {k x y : ℕ} {sort : _} → Denied a k sort x y → Denied b k sort x y
-  denied-on (Q.Denied.faulty g) = absurd (not-clean g (main-clean a m))
-  denied-on (short c h) = absurd (omega (arith, come a m))
-  denied-on (no-field c h d) = no-field (main-clean b n) (come b n) d
+  denied-on (Q.Denied.faulty g) = absurd (not-clean g (main-clean m))
+  denied-on (short c h) = absurd (omega (arith, come m))
+  denied-on (no-field c h d) = no-field (main-clean n) (come n) d
 
   texts : (k i w : ℕ) → TextIs a k (Part i w) → take w (drop i a) ≡ take w (drop i b)
   texts k i w f =

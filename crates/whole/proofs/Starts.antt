@@ -8,7 +8,7 @@ use lib.Seq.{ext-getD}
 use Rattle.mphr.specs.Table.{total}
 use Rattle.demands.specs.Product.{Meets}
 use Rattle.demands.specs.Demands.{start}
-use Rattle.whole.specs.Values.{Bytes}
+use Rattle.meter.specs.Integer.{Bytes}
 use Rattle.whole.specs.Parse.{parseAt, startsAt, parse}
 use Rattle.whole.proofs.Parsed.{all-counted, recs-length}
 use Rattle.whole.proofs.Answers.{nth-start}

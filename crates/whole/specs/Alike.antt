@@ -18,7 +18,8 @@ use Rattle.query.specs.declared.RecordAnswer.the-variants.{Record}
 use Rattle.query.specs.declared.FieldAnswer.the-variants.{Part}
 use Rattle.query.specs.declared.NumberAnswer.{NumberAnswer}
 use Rattle.query.specs.declared.TimeAnswer.{TimeAnswer}
-use Rattle.whole.specs.Values.{Bytes, print}
+use Rattle.meter.specs.Integer.{Bytes}
+use Rattle.whole.specs.Values.{print}
 use Rattle.whole.specs.Spelled.{Canonical}
 use Rattle.whole.specs.Parse.{lineAt, parse}
 

@@ -4,7 +4,8 @@ use Prim.Native.Nat.{ℕ}
 use mathlib.Core.Path.{_≡_}
 use mathlib.Core.List.{List}
 use Rattle.demands.specs.Product.{Meets}
-use Rattle.whole.specs.Values.{Values, Bytes, print, Right}
+use Rattle.meter.specs.Integer.{Bytes}
+use Rattle.whole.specs.Values.{Values, print, Right}
 use Rattle.whole.specs.Spelled.{Canonical}
 use Rattle.whole.specs.Parse.{parse}
 use Rattle.whole.specs.Answers.{Answers}

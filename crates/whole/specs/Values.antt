@@ -9,10 +9,9 @@ use lib.Dec.{eqb}
 use lib.IntN.{pos}
 use lib.ListN.{length, getD, replicate}
 use Rattle.meter.specs.General.{digitsOf, putGeneral}
-use Rattle.meter.specs.Time.{compared}
+use Rattle.meter.specs.Integer.{Bytes}
+use Rattle.meter.specs.Time.{InDays, compared}
 use Rattle.meter.specs.declared.general.General.{General}
-use Rattle.meter.specs.declared.time.Time.{Time}
-use Rattle.meter.specs.declared.time.Time.the-variants as T
 use Rattle.record.specs.Header.{isHeader, putHeader}
 use Rattle.record.specs.Pointer.{putPointer}
 use Rattle.record.specs.Follow.{mayFollow}
@@ -85,20 +84,11 @@ abbrev pub print : Values → List ℕ
 print v = mainOf v ++ joined (v .records)
 
 -- ---- WHICH VALUES ARE RIGHT
--- each is a byte
-abbrev pub Bytes : List ℕ → Type 0
-Bytes a = (k : ℕ) → getD a k 0 < 256
-
 -- the value is of line k's kind and fits its width (mphr's writers: else 22)
 abbrev pub fits : ℕ → Value → Bool
 fits k (text t) = textFits (kindOf k) (widthOf k) t
 fits k (number x) = numberFits (kindOf k) (widthOf k) x
 fits k (time g) = timeFits (kindOf k) g
-
--- "day from 1 January 2000 (2 bytes)"
-abbrev pub InDays : Time → Type 0
-InDays T.Undefined = Unit
-InDays (T.At day ms) = day < 65536
 
 -- a record header: class and group known, size 20 or more, times right (record's writer: else 21), each number of its bytes, and the start not after
 -- the stop where both are defined

@@ -18,7 +18,7 @@ put-shown-requires : tie.Need-put-shown-requires
 put-shown-requires c κs = search needs
 
 returns : tie.Need-returns
-returns c = let r = c .before .before .before in let s = r .before .before in record { lower = r .reading-of .result; right = (r .reading-of .ensures ∙ ap readingOf (r .before .scaled .ensures ∙ scaled-given (isSet (s .args .defined)) (s .args .integer) (s .args .scale) (s .fits .integer) (s .fits .scale)), c .put-shown .ensures .1); says = c .put-shown .ensures .0 }
+returns c = let r = c .before .before .before in let s = r .before .before in record { lower = r .reading-of .result; right = (r .reading-of .ensures .0 ∙ ap readingOf (r .before .scaled .ensures ∙ scaled-given (isSet (s .args .defined)) (s .args .integer) (s .args .scale) (s .fits .integer) (s .fits .scale)), c .put-shown .ensures .1); says = c .put-shown .ensures .0 }
 
 pub wl-reading-spec : {M : Type 1} → statement M
 wl-reading-spec =

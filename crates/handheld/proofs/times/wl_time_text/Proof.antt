@@ -23,7 +23,7 @@ same-length : tie.Need-same-length
 same-length c = search needs
 
 returns : tie.Need-returns
-returns c = let w = c .before .before .before in let g = w .before .before .before in let s = g .before .before in record { lower = w .time-text .result; right = moved (λ (x : Time) (e : List ℕ). WritesTimeText (now (s .args .room)) x (w .time-text .result) e) _ (g .time .ensures) (w .time-text .ensures); says = c .put-written .ensures }
+returns c = let w = c .before .before .before in let g = w .before .before .before in let s = g .before .before in record { lower = w .time-text .result; right = moved (λ (x : Time) (e : List ℕ). WritesTimeText (now (s .args .room)) x (w .time-text .result) e) _ (g .time .ensures) (w .time-text .ensures .0); says = c .put-written .ensures }
 
 pub wl-time-text-spec : {M : Type 1} → statement M
 wl-time-text-spec =

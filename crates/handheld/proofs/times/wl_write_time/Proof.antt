@@ -23,7 +23,7 @@ same-length : tie.Need-same-length
 same-length c = search needs
 
 returns : tie.Need-returns
-returns c = let w = c .before .before .before in let g = w .before .before .before in let s = g .before .before in record { lower = w .write-time .result; right = moved (λ (x : Time) (e : List ℕ). WritesTime (now (s .args .room)) x (w .write-time .result) e) _ (g .time .ensures) (w .write-time .ensures); says = c .put-written .ensures }
+returns c = let w = c .before .before .before in let g = w .before .before .before in let s = g .before .before in record { lower = w .write-time .result; right = moved (λ (x : Time) (e : List ℕ). WritesTime (now (s .args .room)) x (w .write-time .result) e) _ (g .time .ensures) (w .write-time .ensures .0); says = c .put-written .ensures }
 
 pub wl-write-time-spec : {M : Type 1} → statement M
 wl-write-time-spec =

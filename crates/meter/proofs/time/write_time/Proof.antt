@@ -1,7 +1,9 @@
--- `meter::time::write_time` meets its contract: `write_word` at the 48 bits of the time. Assumes nothing.
-use Rattle.meter.specs.Time.{isTime}
+-- `meter::time::write_time` meets its contract: `write_word` at the 48 bits of the time, which read back (WriterLaws). Assumes nothing.
+use Rattle.meter.specs.Time.{isTime, bitsOf}
 use Rattle.meter.specs.Integer.{stored}
-use Rattle.meter.specs.Lent.{writes, wrote}
+use Rattle.meter.specs.Lent.{writes, wrote, saidWritten}
+use Rattle.meter.proofs.TimeLaws.{in-days}
+use Rattle.meter.proofs.WriterLaws.{time-written-back}
 use Prim.Native.Nat.{ℕ}
 use denote.Ref.{now}
 use mathlib.Core.Bool.{Bool, true, false}
@@ -24,13 +26,15 @@ same-length c = search needs
 
 returns : tie.Need-returns
 returns c =
-    let r = now (c .before .before .before .before .before .before .before .args .room) in
-    let t = c .before .before .before .before .before .before .before .args .time in
+    let s = c .before .before .before .before .before .before .before in
+    let r = now (s .args .room) in
+    let t = s .args .time in
     let e = c .before .before .before .before .is-time .ensures in
-    let p = c .before .before .write-word .ensures in (
-      p .0 ∙ ap (writes r 6) e,
-      p .1 ∙ ap (λ (b : Bool). wrote r 6 b (stored r 0 6 (c .before .before .before .time-bits .result))) e ∙ ap (λ (v : ℕ). wrote r 6 (isTime t) (stored r 0 6 v)) (c .before .before .before .time-bits .ensures),
-    )
+    let b = c .before .before .before .time-bits in
+    let w = c .before .before .write-word in
+    let said : saidWritten (w .result) ≡ writes r 6 (isTime t) = w .ensures .0 ∙ ap (writes r 6) e in
+    let left : w .last .0 ≡ wrote r 6 (isTime t) (stored r 0 6 (bitsOf t)) = w .ensures .1 ∙ ap (λ (x : Bool). wrote r 6 x (stored r 0 6 (b .result))) e ∙ ap (λ (v : ℕ). wrote r 6 (isTime t) (stored r 0 6 v)) (b .ensures) in
+    ((said, left), time-written-back r (w .last .0) (w .result) t (in-days t _ (s .good .1 .0)) (said, left))
 
 pub write-time-spec : {M : Type 1} → statement M
 write-time-spec =

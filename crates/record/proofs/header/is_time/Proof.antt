@@ -22,10 +22,10 @@ enum-told-2 : tie.Need-enum-told-2
 enum-told-2 c = search needs
 
 returns : tie.Need-returns
-returns c = writes-answer (0 ∷ 0 ∷ 0 ∷ 0 ∷ 0 ∷ 0 ∷ []) 6 (isTime (c .before .before .before .before .before .args .time)) _ (sym (ap saidWritten (c .enum-told .given .1)) ∙ c .before .before .before .write-time .ensures .0)
+returns c = writes-answer (0 ∷ 0 ∷ 0 ∷ 0 ∷ 0 ∷ 0 ∷ []) 6 (isTime (c .before .before .before .before .before .args .time)) _ (sym (ap saidWritten (c .enum-told .given .1)) ∙ c .before .before .before .write-time .ensures .0 .0)
 
 returns-2 : tie.Need-returns-2
-returns-2 c = writes-refusal (0 ∷ 0 ∷ 0 ∷ 0 ∷ 0 ∷ 0 ∷ []) 6 (isTime (c .before .before .before .before .before .args .time)) _ _ (omega arith) (sym (ap saidWritten (c .enum-told2 .given .1)) ∙ c .before .before .before .write-time .ensures .0)
+returns-2 c = writes-refusal (0 ∷ 0 ∷ 0 ∷ 0 ∷ 0 ∷ 0 ∷ []) 6 (isTime (c .before .before .before .before .before .args .time)) _ _ (omega arith) (sym (ap saidWritten (c .enum-told2 .given .1)) ∙ c .before .before .before .write-time .ensures .0 .0)
 
 pub is-time-spec : {M : Type 1} → statement M
 is-time-spec =

@@ -24,7 +24,7 @@ same-length c = search needs
 returns : tie.Need-returns
 returns c =
     let a = c .before .before .before .before .before .args in
-    put-part (now (a .room)) (c .before .before .write-time .last .0) (a .at) 6 (bitsOf (a .time)) (isTime (a .time)) (c .before .before .before .before .before .pre .1) (c .before .before .before .before .before .pre .0) (c .before .before .write-time .ensures .1)
+    put-part (now (a .room)) (c .before .before .write-time .last .0) (a .at) 6 (bitsOf (a .time)) (isTime (a .time)) (c .before .before .before .before .before .pre .1) (c .before .before .before .before .before .pre .0) (c .before .before .write-time .ensures .0 .1)
 
 pub put-time-spec : {M : Type 1} → statement M
 put-time-spec =

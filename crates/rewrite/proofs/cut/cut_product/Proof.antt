@@ -7,7 +7,7 @@ use Rattle.demands.specs.Product.{Meets}
 use Rattle.parts.specs.Cut.{Window, window, isKept}
 use Rattle.parts.specs.Only.{only, isSphr}
 use Rattle.parts.specs.Parts.{mainOf, recordsAt}
-use Rattle.parts.proofs.CutHeaderLaws.{Bytes}
+use Rattle.meter.specs.Integer.{Bytes}
 use Rattle.parts.proofs.WalkLaws.{walk-first}
 use Rattle.rewrite.specs.declared.plan.Plan.{Plan}
 use Rattle.rewrite.specs.Assembling.{Collected, PlanOf}

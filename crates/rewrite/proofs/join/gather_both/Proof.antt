@@ -5,7 +5,7 @@ use mathlib.Core.Path.{_≡_, refl, sym, ap, _∙_}
 use lib.Dec.{eqb}
 use lib.ListN.{length, length-set}
 use borrow.Author.Needs.{needs}
-use Rattle.parts.proofs.CutHeaderLaws.{Bytes}
+use Rattle.meter.specs.Integer.{Bytes}
 use Rattle.rewrite.proofs.StretchLaws.{sections-come}
 use Rattle.rewrite.proofs.JoinPlanLaws.{gather-1, gather-2, gather-3, gather-4, few, all-gathered, nine-4, one-most}
 use Rattle.rewrite.proofs.join.gather_both.Statement.{statement}

@@ -24,7 +24,7 @@ returns : tie.Need-returns
 returns c =
     let t = c .before .before .before .before .before in
     let b = t .before .before in
-    c .before .copy .ensures ∙ stamp-is (b .args .time) (t .time-text .last .0) (t .time-text .ensures .1 ∙ text-wrote (b .args .time) (b .pre))
+    c .before .copy .ensures ∙ stamp-is (b .args .time) (t .time-text .last .0) (t .time-text .ensures .0 .1 ∙ text-wrote (b .args .time) (b .pre))
 
 pub stamp-of-spec : {M : Type 1} → statement M
 stamp-of-spec =

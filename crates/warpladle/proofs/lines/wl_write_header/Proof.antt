@@ -36,7 +36,7 @@ returns c =
     let s = t .before .before in
     let a = s .args in
     let h : Time → Time → Header = headerGiven (a .class) (a .group) (a .subclass) (a .version) (a .size) in
-    record { lower = w .write-header .result; right = moved (λ (x : Header) (e : List ℕ). WritesHeader (now (a .room)) x (w .write-header .result) e) _ (ap (λ (x : Time). h x (u .time2 .result)) (t .time .ensures) ∙ ap (h (timeGiven (isSet (a .start-defined)) (a .start-day) (a .start-milli))) (u .time2 .ensures)) (w .write-header .ensures); says = c .put-written .ensures }
+    record { lower = w .write-header .result; right = moved (λ (x : Header) (e : List ℕ). WritesHeader (now (a .room)) x (w .write-header .result) e) _ (ap (λ (x : Time). h x (u .time2 .result)) (t .time .ensures) ∙ ap (h (timeGiven (isSet (a .start-defined)) (a .start-day) (a .start-milli))) (u .time2 .ensures)) (w .write-header .ensures .0); says = c .put-written .ensures }
 
 pub wl-write-header-spec : {M : Type 1} → statement M
 wl-write-header-spec =

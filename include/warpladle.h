@@ -13,7 +13,7 @@
  *
  * EVERY FUNCTION IS TOTAL: it asks nothing of the bytes and numbers, and answers in the array that it is lent, whose size the prototype says.
  *   answer[0]   0, or the number of a refusal (enum wl_refusal)
- *   answer[1]   of a refusal its place; else 0, except in wl_arrival
+ *   answer[1]   of a refusal its place; else 0, except in wl_arrival and wl_watch_feed
  *   the rest    the values, or of a refusal zeros
  * A value that may be undefined is a 1 before its parts, or a 0 before zeros. A negative number stands in two's complement: cast it to int64_t.
  * A flag that is handed in (defined, signed_, which) is 0 or not 0; where `defined` is 0 the parts after it are not looked at.
@@ -174,7 +174,7 @@ enum wl_field_number {
     WL_FIELD_SUBSAT_LONGITUDE_START,          /* signed, 11, 0.001 degree */
     WL_FIELD_SUBSAT_LATITUDE_END,             /* signed, 11, 0.001 degree */
     WL_FIELD_SUBSAT_LONGITUDE_END,            /* signed, 11, 0.001 degree */
-    WL_FIELD_LEAP_SECOND,                     /* signed, 2, seconds: -1, 0 or 1 */
+    WL_FIELD_LEAP_SECOND,                     /* signed, 2, seconds: -1, 0 or 1 by 002; -9 to 99 are read and written */
     WL_FIELD_LEAP_SECOND_UTC,                 /* time, 15 */
     WL_FIELD_TOTAL_RECORDS,                   /* count, 6, records */
     WL_FIELD_TOTAL_MPHR,                      /* count, 6, records */
@@ -233,7 +233,7 @@ void wl_level0(const uint8_t *bytes, size_t len, uint32_t (*rows)[7], size_t roo
 
 /* What is known of the bytes fed so far: the main header's 3,307, those of the record header under way, at most 64 pointers, and numbers; some 4,400
  * bytes in all. Its fields are the library's own: make it with wl_watch_new, change it with wl_watch_feed alone, copy it as you like. A watch whose
- * bytes came otherwise still ends each call safely, with some answer. */
+ * bytes came otherwise still ends each call safely, with some answer, whose first number may be none of enum wl_refusal. */
 typedef struct wl_watch {
     uint64_t got, have, at, count, declared, due, place, next, line;
     uint8_t previous, number;
@@ -246,9 +246,10 @@ typedef struct wl_watch {
 void wl_watch_new(wl_watch *watch);
 
 /* The next part, of any length: what wl_arrival says of all that was fed so far, however it was cut (0, the end of the last whole record, the count of
- * whole records, 0; or the refusal 1 to 16); or 24 with its start at the 65th pointer record, which comes after 12 and before 13 where both are
- * shown. A part of no bytes changes nothing; after a refusal every part is answered with it again. The bytes of a record beyond its header are
- * counted, not looked at. */
+ * whole records, 0; or the refusal 1 to 16); or 24 with its start at the 65th pointer record, which comes after 12 and before 13 where both are shown.
+ * So a product of more than 64 pointers is refused here though wl_verdict accepts it, and what wl_cut, wl_join and wl_join_pass write is such a product
+ * where it has more than 64 kinds of records, since they write a pointer to each. A part of no bytes changes nothing; after a refusal every part is
+ * answered with it again. The bytes of a record beyond its header are counted, not looked at. */
 void wl_watch_feed(wl_watch *watch, const uint8_t *part, size_t len, uint64_t answer[4]);
 
 /* ---- an arrival recorded and replayed. A record is numbers of 4 bytes, big-endian: n, the lengths of n parts, m, and m answers of the watch, each as
@@ -318,7 +319,7 @@ void wl_cut(const uint8_t *bytes, size_t len, uint8_t first_defined, uint16_t fi
  * totals, the degraded counts and the durations (added; undefined where either is), SENSING_END and the end time in PRODUCT_NAME (the second's) set
  * anew. Or the refusal of the finished judge 1 to 17, of the first and then of the second; 26; 27, where the last defined stop of an MDR of the first
  * is after the first defined start of one of the second; 28; or 18 with the bytes needed. Of a refusal nothing is written. The result is accepted by
- * wl_verdict. Joining three products one after the other gives the same bytes whichever two are joined first, where neither way is refused. */
+ * wl_verdict. Products that follow each other, joined two by two, give the same bytes however they are paired, where no join is refused. */
 void wl_join(const uint8_t *first, size_t first_len, const uint8_t *second, size_t second_len, uint8_t *room, size_t room_len, uint64_t answer[4]);
 
 /* The join of two granules of a pass. As wl_join, but for two of its tests: 26 compares the SPHR and the records of classes 4 and 5 without bytes 8 to
@@ -343,11 +344,12 @@ void wl_check_cut(const uint8_t *original, size_t len, const uint8_t *cut, size_
 
 /* Adds a product: 0, 0, 0, 0; or 0, 0, its own refusal, 1 to 17, and its place, where it is refused, which then adds one to [0] and to that tally and
  * nothing else. Or 36, 0, 0, 0, and the report as it was, where [0] would pass 4,096 or another number 64 bits. A gap or overlap across one of the days
- * with a leap second counts that second. In whatever order products are added, the report is the same. */
+ * with a leap second counts that second. In whatever order products are added, the report is the same where none is answered with 36; and a list that
+ * does not meet 36 in one order meets it in none. */
 void wl_report_add(uint64_t report[38], const uint8_t *bytes, size_t len, uint64_t answer[4]);
 
-/* Adds another report, number by number: 0, 0, 0, 0; or 36, 0, 0, 0, and the report as it was, where [0] would pass 4,096 or another number 64 bits. The
- * report of a list is the merge of the reports of its parts. The two may not overlap in memory. */
+/* Adds another report, number by number: 0, 0, 0, 0; or 36, 0, 0, 0, and the report as it was, where [0] would pass 4,096 or another number 64 bits.
+ * The report of a list is the merge of the reports of its parts, where none is answered with 36. The two may not overlap in memory. */
 void wl_report_merge(uint64_t report[38], const uint64_t other[38], uint64_t answer[4]);
 
 /* ---- the humidity archive: Upper Tropospheric Humidity files in OpenMTP form, which are no EPS products. 542 bytes of text, a header of 100, and for

@@ -7,3 +7,4 @@ pub mod Demands
 pub mod Example
 pub mod MarkedCases
 pub mod ProductLaws
+pub mod WordsLaws

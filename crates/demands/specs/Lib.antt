@@ -1,3 +1,4 @@
 pub mod Product
+pub mod Words
 pub mod Demands
 pub mod Marked

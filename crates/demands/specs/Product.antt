@@ -1,6 +1,7 @@
 -- DEMAND 2, WHAT A PRODUCT IS, said apart from the table of faults: a main header of 3,307 bytes, whose 72 lines are right; after it records, one
 -- after the other, up to the declared size D; in section order; as many of each class as the header's totals say; each pointer at the start of a
--- later record of the class, group and subclass that it names (01, "Record header, 20 bytes" and "MPHR"; 002, 4.2, 5 and 5.2.1). Assumes nothing.
+-- later record of the class, group and subclass that it names (01, "Record header, 20 bytes" and "MPHR"; 002, 4.2, 5 and 5.2.1). The tests of a line, of
+-- times, classes and groups are the table's too; Words.antt says them in words. Assumes nothing.
 use Prim.Native.Nat.{ℕ, _+_, _≤_, _<_}
 use mathlib.Core.Path.{_≡_}
 use mathlib.Core.Bool.{true, cond}

@@ -23,7 +23,8 @@ use Rattle.demands.specs.Product.{Meets}
 use Rattle.parts.specs.Parts.{recordsAt}
 use Rattle.parts.specs.Parts as P
 use Rattle.parts.proofs.Built.{parts-of}
-use Rattle.parts.proofs.Unique.{frame, line-of}
+use Rattle.demands.proofs.WordsLaws.{frame-words}
+use Rattle.parts.proofs.Unique.{line-of}
 use Rattle.meter.specs.Integer.{Bytes}
 use Rattle.whole.specs.Values.{Values, mainOf, joined, print, lineIn, Right}
 use Rattle.whole.specs.Spelled.{Canonical}
@@ -97,15 +98,15 @@ module _ (a b : List ℕ) (bs : Bytes a) (cs : Bytes b) (m : Meets a) (n : Meets
       go (inr z) = inr (record { line = k; known = h; says = values-same k h; part = z })
 
   in-line : (k i : ℕ) → k < 72 → i < widthOf k + 33 → Dec (i < 30) → Dec (i ≡ 30) → Dec (i ≡ 31) → Dec (i < 32 + widthOf k) → At (lineStart k + i)
-  in-line k i h l (yes u) _ _ _ = inl (frame a k (m .header .lines k h .0) .name i u ∙ sym (frame b k (n .header .lines k h .0) .name i u))
-  in-line k i h l (no u) (yes v) _ _ = rw v (inl (frame a k (m .header .lines k h .0) .equals ∙ sym (frame b k (n .header .lines k h .0) .equals)))
-  in-line k i h l (no u) (no v) (yes w) _ = rw w (inl (frame a k (m .header .lines k h .0) .space ∙ sym (frame b k (n .header .lines k h .0) .space)))
+  in-line k i h l (yes u) _ _ _ = inl (frame-words a k (m .header .lines k h .0) .name i u ∙ sym (frame-words b k (n .header .lines k h .0) .name i u))
+  in-line k i h l (no u) (yes v) _ _ = rw v (inl (frame-words a k (m .header .lines k h .0) .equals ∙ sym (frame-words b k (n .header .lines k h .0) .equals)))
+  in-line k i h l (no u) (no v) (yes w) _ = rw w (inl (frame-words a k (m .header .lines k h .0) .space ∙ sym (frame-words b k (n .header .lines k h .0) .space)))
   in-line k i h l (no u) (no v) (no w) (yes x) =
       let q : lineStart k + i ≡ lineStart k + 32 + (i - 32) = omega (arith, u, v, w) in
       rw q (in-value k h (i - 32) (omega (arith, u, v, w)))
   in-line k i h l (no u) (no v) (no w) (no x) =
       let q : lineStart k + i ≡ lineStart k + 32 + widthOf k = omega (arith, x) in
-      rw q (inl (frame a k (m .header .lines k h .0) .feed ∙ sym (frame b k (n .header .lines k h .0) .feed)))
+      rw q (inl (frame-words a k (m .header .lines k h .0) .feed ∙ sym (frame-words b k (n .header .lines k h .0) .feed)))
 
   byte-at : (j : ℕ) → Dec (j < 20) → Dec (j < 3307) → At j
   byte-at j (yes h) _ = inl (sym (main-first a bs m j h) ∙ ap (λ (v : Values). getD (mainOf v) j 0) e ∙ main-first b cs n j h)

@@ -31,7 +31,7 @@ use Rattle.demands.specs.Demands.{start}
 use Rattle.demands.proofs.Example.{product-meets}
 use Rattle.whole.specs.Values.{Value, text, number, time, plain, pointer, Values, lineOf, mainOf, recOf, print, Right}
 use Rattle.whole.specs.Spelled.{Canonical}
-use Rattle.whole.specs.Parse.{lineAt, recAt, startsAt, parse}
+use Rattle.whole.specs.Parse.{lineAt, recAt, parse}
 use Rattle.whole.specs.Answers.{Answers}
 use Rattle.whole.proofs.OfBytes.{all-small}
 use Rattle.whole.proofs.Inverse.{inverse}

@@ -5,15 +5,15 @@ import struct
 import subprocess
 import sys
 from pathlib import Path
+from typing import NamedTuple
 
 import pytest
+import vectors
+from fields import FIELDS, NAMES, line_start
+
+from warpladle import Refused
 
 ROOT = Path(__file__).resolve().parents[2]
-sys.path[:0] = [str(ROOT / 'python'), str(ROOT / 'tools')]
-
-import vectors  # noqa: E402
-from fields import FIELDS, NAMES, line_start  # noqa: E402
-from warpladle import Refused  # noqa: E402
 
 HEAD = 3307
 LARGEST = 2**31 - 1
@@ -77,7 +77,7 @@ def library():
 @pytest.fixture(scope='session')
 def environment(library):
     """The environment of a user's shell."""
-    return {**os.environ, 'WARPLADLE_LIBRARY': str(library), 'PYTHONPATH': str(ROOT / 'python')}
+    return {**os.environ, 'WARPLADLE_LIBRARY': str(library), 'PYTHONPATH': str(ROOT / 'python'), 'COLUMNS': '80'}
 
 
 # ---- large products
@@ -126,3 +126,63 @@ def sparse(samples, tmp_path_factory):
             at += size
     assert os.stat(path).st_blocks * 512 < 2**20
     return path
+
+
+# ---- the command
+
+
+class Done(NamedTuple):
+    """The status of a command, and what it printed."""
+
+    status: int
+    out: str
+    err: str
+
+    @property
+    def values(self):
+        """Each line of JSON."""
+        return [json.loads(line) for line in self.out.splitlines()]
+
+    @property
+    def value(self):
+        """The one line of JSON."""
+        one, = self.values
+        return one
+
+
+def command(*words):
+    """The words that start the command."""
+    return [sys.executable, '-B', '-m', 'warpladle', *map(os.fspath, map(str, words))]
+
+
+@pytest.fixture
+def run(environment, tmp_path):
+    """Runs the command in a folder of its own."""
+    def run(*words, stdin=b'', cwd=tmp_path, **options):
+        done = subprocess.run(command(*words), input=stdin, capture_output=True, cwd=cwd, env={**environment, **options})
+        return Done(done.returncode, done.stdout.decode(), done.stderr.decode())
+    return run
+
+
+@pytest.fixture
+def started(environment, tmp_path):
+    """Starts the command; what still runs at the end of the test is ended."""
+    processes = []
+
+    def start(*words, **options):
+        given = {'stdin': subprocess.PIPE, 'stdout': subprocess.PIPE, 'stderr': subprocess.PIPE, 'cwd': tmp_path, 'env': environment, **options}
+        processes.append(subprocess.Popen(command(*words), **given))
+        return processes[-1]
+    yield start
+    for process in processes:
+        if process.poll() is None:
+            process.kill()
+        process.wait()
+        for pipe in (process.stdin, process.stdout, process.stderr):
+            if pipe is not None and not pipe.closed:
+                pipe.close()
+
+
+@pytest.fixture
+def rich(samples):
+    return samples / 'rich.eps'

@@ -14,7 +14,9 @@ def damaged(rng, data):
         at = rng.choice([rng.choice(PLACES), rng.choice(starts) + rng.randrange(27), rng.randrange(len(out))])
         if at < len(out):
             out[at] = rng.choice([0, 1, 8, 13, 32, 48, 49, 57, 120, 255, rng.randrange(256)])
-    return bytes(out) + bytes(rng.randrange(30)) if rng.random() < 0.1 else bytes(out[:rng.randrange(len(out))]) if rng.random() < 0.1 else bytes(out)
+    if rng.random() < 0.1:
+        return bytes(out) + bytes(rng.randrange(30))
+    return bytes(out[:rng.randrange(len(out))]) if rng.random() < 0.1 else bytes(out)
 
 
 def test_whatever_the_bytes_are(given, samples):

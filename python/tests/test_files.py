@@ -4,7 +4,7 @@ import os
 
 import pytest
 
-from warpladle.files import beside, mapped, write_beside
+from warpladle.files import beside, map_file, write_beside
 
 
 def test_a_file_that_comes_there_meanwhile_is_kept(tmp_path):
@@ -58,9 +58,9 @@ def test_a_broken_link_is_an_existing_file(tmp_path):
 
 def test_what_is_mapped(tmp_path):
     (tmp_path / 'empty').touch()
-    assert mapped(tmp_path / 'empty') == b'' and mapped('/dev/null') == b''
+    assert map_file(tmp_path / 'empty') == b'' and map_file('/dev/null') == b''
     (tmp_path / 'data').write_bytes(b'data')
-    data = mapped(tmp_path / 'data')
+    data = map_file(tmp_path / 'data')
     assert data[:] == b'data'
     with pytest.raises(TypeError):
         data[0] = 1

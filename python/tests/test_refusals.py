@@ -48,7 +48,7 @@ def cut(given, case):
 
 
 def join(given, case):
-    return Product(given.product(case, 'first')).join(Product(given.product(case, 'second')))
+    return Product(given.product(case, 'first')).join(Product(given.product(case, 'second')), identical=True)
 
 
 def humidity(given, case):

@@ -1,7 +1,7 @@
 """Cuts, joins, checks of cuts, humidity files, reports and replays, against the vectors."""
 import pickle
 import struct
-from functools import reduce
+from functools import partial, reduce
 from operator import add
 
 import pytest
@@ -44,7 +44,7 @@ def test_every_join(given):
         if 'three' in case:
             continue
         first, second = (Product(given.product(case, key)) for key in ('first', 'second'))
-        answer = said(first.join, second)
+        answer = said(partial(first.join, identical=True), second)
         assert bytes_of(answer) == output(given, case) if 'output' in case else answer == case['answer'], case['name']
         seen.add(case['answer'][1] if case['answer'][0] == 'refused' else 0)
     assert {0, 26, 27, 28} <= seen
@@ -58,7 +58,9 @@ def test_three_joined_either_way(given, tmp_path):
         a, b, c = (Product(given.products()[k]) for k in case['three'])
         expected = given.products()[case['output']]
         assert bytes(a.join(b).join(c)) == bytes(a.join(b.join(c))) == expected
-        assert bytes(join_all([a, b, c], tmp_path / str(n))) == (tmp_path / str(n)).read_bytes() == expected
+        assert bytes(a.join(b, identical=True).join(c, identical=True)) == expected
+        for identical, out in ((False, tmp_path / f'{n}'), (True, tmp_path / f'{n}i')):
+            assert bytes(join_all([a, b, c], out, identical=identical)) == out.read_bytes() == expected
         folds += 1
     assert folds > 5
 
@@ -67,7 +69,7 @@ def test_every_check_of_a_cut(given):
     seen = set()
     for case in given.lines('requests/ten.jsonl'):
         original, cut = (Product(given.products()[case[key]]) for key in ('original', 'cut'))
-        place, yes = said(cut.no_cut_of, original), said(cut.is_cut_of, original)
+        place, yes = said(cut.mismatch_with, original), said(cut.is_cut_of, original)
         seen.add(case['answer'][0])
         if case['answer'][0] == 'refused':
             assert place == yes == case['answer']

@@ -1,6 +1,4 @@
 """python3 -m warpladle"""
-import sys
+from .cli import enter
 
-from .command import main
-
-sys.exit(main())
+enter()

@@ -26,26 +26,38 @@ def _flat(number: Scaled | None) -> tuple[int, int, int]:
 
 
 def read_scaled(data: bytes, at: int = 0, width: int = 4, signed_: bool = True) -> Scaled | None:
-    """The scaled number in the 1 + width bytes from `at` on, the scale first; `None` where it is undefined; 20, 21."""
+    """The scaled number in the 1 + width bytes from `at` on, the scale first; `None` where it is undefined.
+
+    Raises Refused: 20 past the bytes, 21 for a width or scale that cannot be.
+    """
     defined, integer, scale, _ = ask('read_scaled', data, at, width, signed_)
     return Scaled(signed(integer), signed(scale)) if defined else None
 
 
 def write_scaled(number: Scaled | None, width: int = 4, signed_: bool = True) -> bytes:
-    """A scaled number as 1 + width bytes; 21."""
+    """A scaled number as 1 + width bytes.
+
+    Raises Refused: 21 where it does not fit.
+    """
     room = bytearray(9)
     written = ask('write_scaled', room, width, signed_, *_flat(number))[0]
     return bytes(room[:written])
 
 
 def round_scaled(number: Scaled | None, decimals: int) -> int | None:
-    """The number in units of the last of so many decimals, 0 to 15, a tie away from zero; `None` where it is undefined; 21."""
+    """The number in units of the last of so many decimals, 0 to 15, a tie away from zero; `None` where it is undefined.
+
+    Raises Refused: 21 for decimals, a scale or a number outside of the limits.
+    """
     defined, units = ask('round', *_flat(number), decimals)
     return signed(units) if defined else None
 
 
 def reading(number: Scaled | None) -> Reading:
-    """What a meter shows of it; 21 where that is beyond 2^53."""
+    """What a meter shows of it.
+
+    Raises Refused: 21 where that is beyond 2^53.
+    """
     value = ctypes.c_double()
     shown = ask('reading', *_flat(number), value)[0]
     return Reading(('missing', 'whole', 'between')[shown], value.value if shown else None)

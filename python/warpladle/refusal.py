@@ -1,5 +1,61 @@
-"""A refusal of the library, as an exception."""
+"""Refusals of the library: their numbers by name, what each means, and the exception that carries one."""
 from __future__ import annotations
+
+from enum import Enum, IntEnum
+from typing import Any
+
+
+class Refusal(IntEnum):
+    """The number of a refusal, by the name that include/warpladle.h has for it."""
+
+    FIRST_HEADER = 1
+    LINE = 2
+    VALUE = 3
+    DECLARED_SIZE = 4
+    TOTALS = 5
+    BYTES_LEFT = 6
+    UNKNOWN_KIND = 7
+    ORDER = 8
+    RECORD_SIZE = 9
+    RECORD_TIMES = 10
+    TOO_MANY = 11
+    TARGET = 12
+    POINTS_INSIDE = 13
+    POINTS_AT_OTHER = 14
+    TOO_FEW = 15
+    BEYOND = 16
+    UNFINISHED = 17
+    ROOM = 18
+    NO_RECORD = 19
+    OUTSIDE = 20
+    MALFORMED = 21
+    NO_FIELD = 22
+    LISTING_LIMIT = 23
+    TOO_MANY_POINTERS = 24
+    WINDOW = 25
+    UNLIKE = 26
+    OUT_OF_TIME = 27
+    RESULT_LIMIT = 28
+    PROFILE = 29
+    UTH_SHORT = 30
+    UTH_SEGMENTS = 31
+    UTH_GRID = 32
+    UTH_BLOCKS = 33
+    UTH_CUT = 34
+    UTH_LEFT = 35
+    REPORT_FULL = 36
+    RECORD_LENGTH = 37
+    RECORD_COUNTS = 38
+    PART_LENGTHS = 39
+
+
+class State(str, Enum):
+    """What a file is: whole, incomplete (more may come) or refused (for good)."""
+
+    WHOLE = 'whole'
+    INCOMPLETE = 'incomplete'
+    REFUSED = 'refused'
+
 
 # what each number means whatever was lent; `words` says more where the bytes are at hand
 MEANING = {
@@ -19,7 +75,7 @@ MEANING = {
     14: 'a pointer points at a record of another class, group or subclass',
     15: 'there are fewer records of a class than its total',
     16: 'there are bytes beyond the declared size',
-    17: 'the product is finished short of its size',
+    17: 'the product is finished short of its main header or of its declared size',
     18: 'the lent room is too small',
     19: 'there is no such record yet',
     20: 'the part to read is outside the lent bytes',
@@ -41,25 +97,42 @@ MEANING = {
     36: 'the report is full: 4,096 products, or a total of 64 bits',
     37: 'the record of the arrival is short or long',
     38: 'the record of the arrival has another number of answers than of parts',
-    39: "the lengths of the parts do not sum to the product's",
+    39: "the lengths of the parts do not sum to the product's, or are more than a record can count",
 }
+
+OF_A_PRODUCT = range(1, 18)
+OF_A_FILE = (*OF_A_PRODUCT, *range(29, 36))  # what a file's own bytes are refused with; the others are faults of what was asked
 
 
 class Refused(Exception):
     """The library refused what it was lent.
 
-    `number` and `place` are the library's own (README.md, "What the answers mean"); `words` say what was expected and what was found.
+    `number` and `place` are the library's own (README.md, "What the answers mean"); `words` say what was expected and
+    what was found; `inputs` names the files at fault where more than one was lent.
     """
 
-    def __init__(self, number: int, place: int, words: str = '') -> None:
-        super().__init__(number, place, words)
-        self.number = number
+    def __init__(self, number: int, place: int, words: str = '', inputs: tuple[str, ...] = ()) -> None:
+        super().__init__(int(number), place, words, inputs)
+        self.number = int(number)
         self.place = place
         self.words = words or MEANING.get(number, 'the library has no such number')
+        self.inputs = inputs
 
     def __str__(self) -> str:
         return f'refused {self.number} {self.place}: {self.words}'
 
-    def as_dict(self) -> dict[str, int | str]:
+    @property
+    def refusal(self) -> Refusal:
+        """The number by its name."""
+        return Refusal(self.number)
+
+    @property
+    def state(self) -> State | None:
+        """What it says of the file: incomplete for 17, refused for 1 to 16 and 29 to 35; None for a fault of what was asked."""
+        if self.number == Refusal.UNFINISHED:
+            return State.INCOMPLETE
+        return State.REFUSED if self.number in OF_A_FILE else None
+
+    def as_dict(self) -> dict[str, Any]:
         """Number, place and words, for a program to read."""
         return {'number': self.number, 'place': self.place, 'words': self.words}

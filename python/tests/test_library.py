@@ -14,8 +14,6 @@ PLAIN = {library.U8: 'uint8_t', library.U16: 'uint16_t', library.U32: 'uint32_t'
 LENT = {library.BYTES: ['const uint8_t *'], library.ROOM: ['uint8_t *'], library.ROWS: ['uint32_t (*)[7]'], library.BLOCKS: ['uint32_t (*)[4]'],
         library.VALUES: ['float (*)[2]'], library.LENGTHS: ['const uint32_t *'], library.SAME_STATE: ['const uint64_t [38]'],
         library.STATE: ['wl_watch *', 'uint64_t [38]', 'double [2]', 'double *']}
-# those of the requests that land with the package; the header has them when they have landed
-LANDING = {'verdict', 'rows', 'level0', 'report_add', 'report_merge', 'replay', 'record_arrival'}
 
 
 def declared():
@@ -39,9 +37,8 @@ def expected(kinds, size):
 
 def test_each_function_is_declared_so():
     header = declared()
-    assert set(header) - set(FUNCTIONS) <= {'watch_new', 'finished'}
-    assert set(FUNCTIONS) - set(header) <= LANDING
-    for name in set(header) & set(FUNCTIONS):
+    assert set(header) == {*FUNCTIONS, 'watch_new'}
+    for name in FUNCTIONS:
         types = [one.replace('( *)', '(*)').replace('(* )', '(*)') for one in header[name]]
         places = list(expected(*FUNCTIONS[name]))
         assert len(types) == len(places), name

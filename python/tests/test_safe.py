@@ -36,8 +36,9 @@ def holed(tmp_path):
     with open(path, 'wb') as file:
         file.truncate(len(data))
         file.write(data[:BLOCK])
-    if first_hole(os.open(path, os.O_RDONLY)) == len(data):
-        pytest.skip('the file system knows of no holes')
+    with open(path, 'rb') as file:
+        if first_hole(file.fileno(), len(data)) == len(data):
+            pytest.skip('the file system knows of no holes')
     assert Product(path).verdict == 6  # its bytes are those of a whole product: payload is not judged
     return path, data
 
@@ -65,16 +66,18 @@ def test_what_has_surely_come(tmp_path):
         file.write(b'x' * (3 * BLOCK))
         file.seek(50 * BLOCK)
         file.write(b'x')
-    with open(path, 'rb') as file:
-        if first_hole(file.fileno()) != 3 * BLOCK:
-            pytest.skip('the file system knows of no holes')
-        assert surely_come(file.fileno()) == 2 * BLOCK and file.read(1) == b'x'
+    if come(path) == 100 * BLOCK + 5:
+        pytest.skip('the file system knows of no holes')
+    assert come(path) == 2 * BLOCK
     path.write_bytes(b'x' * 5000)
-    with open(path, 'rb') as file:
-        assert surely_come(file.fileno()) == 5000
+    assert come(path) == 5000
     path.write_bytes(b'')
+    assert come(path) == 0
+
+
+def come(path):
     with open(path, 'rb') as file:
-        assert surely_come(file.fileno()) == first_hole(file.fileno()) == 0
+        return surely_come(file.fileno(), os.fstat(file.fileno()))
 
 
 def test_a_refusal_before_the_hole_is_final(tmp_path, run):
@@ -288,7 +291,7 @@ def test_a_file_cut_short_while_it_is_read_is_told_and_the_others_are_counted(en
     """A downloader cuts the file while it is mapped: in a process of its own, which the kernel ends with SIGBUS."""
     names = [tmp_path / f'{k}.eps' for k in range(5)]
     for name in names:
-        name.write_bytes(rich.read_bytes() * 4)
+        name.write_bytes(rich.read_bytes() * 400)  # enough to be mapped
     code = '''
 import os, sys
 from warpladle import cli
@@ -303,11 +306,11 @@ check.open_input = report.open_input = cut_meanwhile
 sys.exit(cli.main(sys.argv[1:]))
 '''
     for words, expected in ((['check'], 'refused 16 4356'), (['report', '--jobs', '2'], 'products 4, accepted 0, refused 4')):
-        names[2].write_bytes(rich.read_bytes() * 4)
+        names[2].write_bytes(rich.read_bytes() * 400)
         done = subprocess.run([os.environ.get('PYTHON', '/usr/bin/python3'), '-B', '-c', code, *words, *map(str, names)], env=environment, capture_output=True, text=True)
         assert done.returncode == 2, done
         assert done.stderr == f'warpladle: {names[2]}: it was cut short while it was read\n'
-        assert expected in done.stdout and str(names[4]) in done.stdout + str(words if words[0] == 'report' else '') + str(names[4])
+        assert done.stdout.count(expected) == (4 if words == ['check'] else 1)
 
 
 def test_a_large_file_cut_short_while_it_is_cut(environment, tmp_path):
@@ -335,8 +338,10 @@ sys.exit(cli.main(sys.argv[1:]))
 def test_a_small_file_cut_short_is_told(tmp_path):
     from warpladle.files import CutShort, read_file
     (tmp_path / 'short').write_bytes(b'x' * 10)
-    with open(tmp_path / 'short', 'rb', buffering=0) as file, pytest.raises(CutShort, match='cut short while it was read'):
-        read_file(file, 20)
+    with open(tmp_path / 'short', 'rb') as file:
+        assert read_file('short', file.fileno(), 10) == b'x' * 10 and read_file('short', file.fileno(), 0) == b''
+        with pytest.raises(CutShort, match='short'):
+            read_file('short', file.fileno(), 20)
 
 
 # ---- many files

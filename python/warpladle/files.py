@@ -8,13 +8,14 @@ import stat
 import tempfile
 from collections.abc import Callable, Iterator
 from contextlib import contextmanager
-from typing import Any, BinaryIO, Union
+from typing import Any, Union
 
 PathLike = Union[str, 'os.PathLike[str]']
 Buffer = Union[bytes, bytearray, memoryview, mmap.mmap]
 
 MOST = 1 << 31  # a product has fewer bytes
-PART = 1 << 16
+PART = 1 << 16  # bytes of a stream that are read at a time
+AT_ONCE = 1 << 26  # bytes of a file that are read at a time
 BLOCK = 4096  # the least that a file system writes at once, where it does not say
 
 
@@ -40,18 +41,20 @@ def map_file(path: PathLike) -> Buffer:
         return mmap.mmap(file.fileno(), 0, access=mmap.ACCESS_READ) if about.st_size else b''
 
 
-def read_file(file: BinaryIO, size: int) -> bytearray:
-    """So many bytes of an unbuffered file from its start, in memory: what is read so can be cut short without harm.
+def read_file(name: str, handle: int, size: int) -> bytes | bytearray:
+    """The first so many bytes of a file, in memory: what is read so can be cut short without harm.
 
     Raises CutShort where there are fewer.
     """
-    room = bytearray(size)
-    view, got = memoryview(room), 0
-    while got < size:
-        part = file.readinto(view[got:])  # type: ignore[attr-defined]
+    first = os.pread(handle, min(size, AT_ONCE), 0)
+    if len(first) == size:
+        return first
+    room = bytearray(first)
+    while len(room) < size:
+        part = os.pread(handle, min(size - len(room), AT_ONCE), len(room))
         if not part:
-            raise CutShort(str(file.name))
-        got += part
+            raise CutShort(name)
+        room += part
     return room
 
 
@@ -69,25 +72,21 @@ def read_stream(file: Any, is_over: Callable[[bytearray, bytes], bool] = lambda 
     return data
 
 
-def first_hole(handle: int) -> int:
-    """Where the first hole of a regular file is; its size where it has none, or its file system knows of none."""
-    size = os.fstat(handle).st_size
+def first_hole(handle: int, size: int) -> int:
+    """Where the first hole of a regular file of so many bytes is; its size where it has none, or its file system knows of none."""
     try:
         return min(size, os.lseek(handle, 0, os.SEEK_HOLE)) if size else 0
     except OSError:
         return size
-    finally:
-        os.lseek(handle, 0, os.SEEK_SET)
 
 
-def surely_come(handle: int) -> int:
+def surely_come(handle: int, about: os.stat_result) -> int:
     """How many bytes of a regular file have surely come: all of them, or those before the last block before its first hole,
-    which may be half written."""
-    about, hole = os.fstat(handle), first_hole(handle)
-    if hole >= about.st_size:
-        return about.st_size
-    block = about.st_blksize or BLOCK
-    return max(0, hole - 1) // block * block
+    which may be half written. It moves the place at which the file is read next."""
+    hole = first_hole(handle, about.st_size)
+    if hole == about.st_size:
+        return hole
+    return max(0, hole - 1) // (about.st_blksize or BLOCK) * (about.st_blksize or BLOCK)
 
 
 # ---- written

@@ -24,73 +24,96 @@ def flush_output() -> None:
     sys.stderr.flush()
 
 
-class _Worker:
-    """A process that works on every so many items, from `at` on."""
+class Worker:
+    """A process to which items are sent, one at a time, and which gives the function's result of each. It begins with the first."""
 
-    def __init__(self, function: Callable[[Any], Any], items: Sequence[Any], at: int, step: int) -> None:
-        self.function, self.items, self.at, self.step = function, items, at, step
-        self.start()
+    def __init__(self, function: Callable[[Any], Any]) -> None:
+        self.function = function
+        self.process = 0
 
-    def start(self) -> None:
-        """A process for what is left."""
-        read, write = os.pipe()
+    def send(self, item: Any) -> None:
+        """The next item, whose result is then asked for."""
+        if self.process == 0:
+            self._start()
+        _send(self.to, item)
+
+    def _start(self) -> None:
+        from_parent, self.to = os.pipe()
+        from_child, to_parent = os.pipe()
         flush_output()
         self.process = os.fork()
         if self.process == 0:
-            os.close(read)
-            _serve(write, self.function, self.items[self.at::self.step])
-        os.close(write)
-        self.pipe = os.fdopen(read, 'rb')
+            os.close(self.to)
+            os.close(from_child)
+            _serve(from_parent, to_parent, self.function)
+        os.close(from_parent)
+        os.close(to_parent)
+        self.results = os.fdopen(from_child, 'rb')
 
-    def next(self) -> Any:
-        """The result of the next item; of one that ended the process `Died`, and another process goes on."""
-        self.at += self.step
+    def receive(self) -> Any:
+        """The result of the item that was sent; of one that ended the process `Died`, and the next item begins another."""
         try:
-            is_raised, value = pickle.load(self.pipe)
+            is_raised, value = pickle.load(self.results)
         except (EOFError, pickle.UnpicklingError):
-            died = Died(os.WTERMSIG(self.end()), 0)
-            if self.at < len(self.items):
-                self.start()
-            return died
+            process = self.process
+            return Died(os.WTERMSIG(self.end()), process)
         if is_raised:
             raise value
         return value
 
+    def ask(self, item: Any) -> Any:
+        """The result of an item."""
+        self.send(item)
+        return self.receive()
+
     def end(self) -> int:
         """The status of the process, which has ended or is ended now."""
-        self.pipe.close()
         if self.process == 0:
             return 0
         process, self.process = self.process, 0
-        try:
-            os.kill(process, signal.SIGKILL)
-        except ProcessLookupError:
-            pass
+        os.close(self.to)
+        self.results.close()
+        os.kill(process, signal.SIGKILL)  # it is ours until it is waited for, so that this is no other
         return os.waitpid(process, 0)[1]
 
 
-def _serve(write: int, function: Callable[[Any], Any], items: Sequence[Any]) -> NoReturn:
-    """In the child: the result of each item, or what it raised, into the pipe."""
+def _send(pipe: int, value: Any) -> None:
+    data = memoryview(pickle.dumps(value))
+    while data:
+        data = data[os.write(pipe, data):]
+
+
+def _serve(from_parent: int, to_parent: int, function: Callable[[Any], Any]) -> NoReturn:
+    """In the child: the result of each item, or what it raised, until no more come."""
     try:
         for ending in ENDINGS:
             signal.signal(ending, signal.SIG_DFL)
-        with os.fdopen(write, 'wb', buffering=0) as pipe:
-            for item in items:
+        with os.fdopen(from_parent, 'rb') as items:
+            while True:
+                item = pickle.load(items)
                 try:
                     result = (False, function(item))
                 except Exception as error:
                     result = (True, error)
-                pipe.write(pickle.dumps(result))
+                _send(to_parent, result)
+    except (EOFError, BrokenPipeError):
+        pass
     finally:
         os._exit(0)
 
 
 def map_in_workers(function: Callable[[Any], Any], items: Sequence[Any], jobs: int = 1) -> Iterator[Any]:
     """The function's result of each item, in their order, by so many processes; `Died` of an item that ended its process."""
-    workers = [_Worker(function, items, k, jobs) for k in range(min(jobs, len(items)))]
+    workers = [Worker(function) for _ in range(min(jobs, len(items)))]
     try:
+        for worker, item in zip(workers, items):
+            worker.send(item)
         for k in range(len(items)):
-            yield workers[k % len(workers)].next()
+            worker = workers[k % len(workers)]
+            result = worker.receive()
+            if k + len(workers) < len(items):
+                worker.send(items[k + len(workers)])
+            yield result
     finally:
         for worker in workers:
             worker.end()

@@ -3,15 +3,15 @@ from __future__ import annotations
 
 import argparse
 import functools
-from collections.abc import Callable
+from collections.abc import Callable, Iterator
 from typing import Any
 
 from ..files import CutShort
 from ..library import function
 from ..product import Product
 from ..refusal import Refused, State
-from ..workers import Died, map_in_workers
-from .inputs import add_files, add_json, add_sparse, named_files, open_input
+from ..workers import Died, Worker
+from .inputs import READ_SOON, TooLarge, add_files, add_json, add_sparse, named_files, open_input
 from .output import Output, Status, worst
 
 MORE = 'A line for each file, whole, incomplete or refused.'
@@ -48,13 +48,26 @@ def judge_files(args: argparse.Namespace, output: Output, judge: Callable[[Produ
     names = named_files(args)
     function('verdict')  # a library that is missing is told once, and here
     judge_one = functools.partial(judge_file, judge=judge, sparse=args.sparse, is_json=args.json, is_all=is_all)
-    return worst([tell(output, name, result) for name, result in zip(names, map_in_workers(judge_one, names))])
+    return worst([tell(output, name, result) for name, result in zip(names, in_turn(judge_one, names))])
 
 
-def judge_file(name: str, *, judge: Callable[[Product], int], sparse: bool, is_json: bool, is_all: bool) -> Any:
+def in_turn(function: Callable[..., Any], names: list[str]) -> Iterator[Any]:
+    """The function's result of each file: small ones here, and those that are mapped in a process of its own."""
+    worker = Worker(functools.partial(function, may_map=True))
+    try:
+        for name in names:
+            try:
+                yield function(name, may_map=False)
+            except TooLarge:
+                yield worker.ask(name)
+    finally:
+        worker.end()
+
+
+def judge_file(name: str, *, judge: Callable[[Product], int], sparse: bool, is_json: bool, is_all: bool, may_map: bool) -> Any:
     """What is said of a file: its count and size, with more for a program; or its refusal; or why it cannot be read."""
     try:
-        product = open_input(name, sparse=sparse, is_mapped=True)
+        product = open_input(name, sparse=sparse, read_below=READ_SOON, may_map=may_map)
     except OSError as error:
         return error
     try:

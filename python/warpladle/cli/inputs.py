@@ -19,10 +19,15 @@ from ..watch import Watch
 from .output import BadUsage
 
 READ_WHOLE = 64 << 20  # files below are read into memory, where no one can cut them short; larger ones are mapped
+READ_SOON = 1 << 20  # of many files those below are read; others are mapped, in a process of its own
 INPUTS = ('file', 'original', 'cut', 'record')  # arguments of commands that name one file to read
 STANDARD = '-'
 
 _kept: dict[str, Any] = {}  # standard input, which can be read once
+
+
+class TooLarge(Exception):
+    """A file is to be mapped, and this process is not to do it."""
 
 
 # ---- arguments that commands share
@@ -163,23 +168,30 @@ def is_no_humidity_file(data: bytearray, part: bytes) -> bool:
     return len(data) - len(part) < 642 <= len(data) and answer('uth', data, bytearray(), bytearray())[0] not in (0, Refusal.ROOM, Refusal.UTH_CUT)
 
 
-def open_input(name: str, *, sparse: bool = False, is_mapped: bool = False) -> Product:
-    """A product to be read: a file, read or mapped, up to where it has surely come; or standard input, a pipe or a device, as
-    much as comes up to a refusal."""
+def open_input(name: str, *, sparse: bool = False, read_below: int = READ_WHOLE, may_map: bool = True) -> Product:
+    """A product to be read: a file, read or from a size on mapped, up to where it has surely come; or standard input, a pipe or a
+    device, as much as comes up to a refusal. Raises TooLarge for a file that is to be mapped and may not."""
     if name == STANDARD:
         if name not in _kept:
             with told_of('standard input'):
                 _kept[name] = read_stream(sys.stdin.buffer.raw, _Judge().is_refused)  # type: ignore[attr-defined]
         return _named(Product(_kept[name]), name)
-    with told_of(name), open(name, 'rb', buffering=0) as file:
-        about = os.fstat(file.fileno())
-        if not stat.S_ISREG(about.st_mode):
+    handle = os.open(name, os.O_RDONLY | os.O_CLOEXEC)
+    try:
+        about = os.fstat(handle)
+        if stat.S_ISREG(about.st_mode):
+            return _open_file(name, handle, about, sparse, about.st_size >= read_below, may_map)
+        with told_of(name), open(handle, 'rb', buffering=0, closefd=False) as file:
             return _named(Product(read_stream(file, _Judge().is_refused)), name)
-        come = about.st_size if sparse else surely_come(file.fileno())
-        is_large = is_mapped or about.st_size >= READ_WHOLE
-        data: Any = b''
-        if about.st_size:
-            data = mmap.mmap(file.fileno(), 0, access=mmap.ACCESS_READ) if is_large else read_file(file, about.st_size)
+    finally:
+        os.close(handle)
+
+
+def _open_file(name: str, handle: int, about: os.stat_result, sparse: bool, is_large: bool, may_map: bool) -> Product:
+    if is_large and not may_map:
+        raise TooLarge(name)
+    come = about.st_size if sparse else surely_come(handle, about)  # before it is read: a hole that is filled later has not been
+    data = mmap.mmap(handle, 0, access=mmap.ACCESS_READ) if is_large else read_file(name, handle, about.st_size)
     product = _named(Product(data), name)
     return product if come == about.st_size else _before_hole(product, come)
 
@@ -203,7 +215,7 @@ def read_input(name: str, is_over: Callable[[bytearray, bytes], bool] = lambda d
             return read_stream(sys.stdin.buffer.raw, is_over)  # type: ignore[attr-defined]
     with told_of(name), open(name, 'rb', buffering=0) as file:
         about = os.fstat(file.fileno())
-        return read_file(file, about.st_size) if stat.S_ISREG(about.st_mode) else read_stream(file, is_over)
+        return read_file(name, file.fileno(), about.st_size) if stat.S_ISREG(about.st_mode) else read_stream(file, is_over)
 
 
 def is_stream(name: str) -> bool:

@@ -14,7 +14,8 @@ from ..files import refuse_to_overwrite, write_beside
 from ..library import function
 from ..overview import Entry, Overview, count_file, count_files, cut_short
 from ..workers import Died, map_in_workers
-from .inputs import a_count, add_files, add_force, add_json, add_sparse, named_files, open_input
+from .check import in_turn
+from .inputs import READ_SOON, a_count, add_files, add_force, add_json, add_sparse, named_files, open_input
 from .output import STATUS_OF, BadUsage, Output, Status, complain
 
 MORE = ('What is refused and what is incomplete is named with its reason; so are gaps and overlaps between products of one spacecraft, instrument, type '
@@ -75,10 +76,15 @@ def count(args: argparse.Namespace, names: list[str]) -> Iterator[Entry]:
     if args.scheduler is not None:
         yield from count_on_cluster(args.scheduler, names, args.sparse)
         return
-    count_one = functools.partial(count_file, open_file=functools.partial(open_input, sparse=args.sparse, is_mapped=True))
-    counted = map_in_workers(count_one, names, args.jobs)
+    count_one = functools.partial(count_input, sparse=args.sparse)
+    counted = in_turn(count_one, names) if args.jobs == 1 else map_in_workers(functools.partial(count_one, may_map=True), names, args.jobs)
     for name, entry in zip(names, show_progress(counted, len(names))):
         yield cut_short(name) if isinstance(entry, Died) else entry
+
+
+def count_input(name: str, *, sparse: bool, may_map: bool) -> Entry:
+    """The entry of a file."""
+    return count_file(name, lambda name: open_input(name, sparse=sparse, read_below=READ_SOON, may_map=may_map))
 
 
 def count_on_cluster(address: str, names: list[str], sparse: bool) -> list[Entry]:

@@ -3,6 +3,7 @@ from __future__ import annotations
 
 import argparse
 import errno
+import functools
 import os
 import sys
 import time
@@ -10,7 +11,7 @@ from collections.abc import Callable, Iterator
 from typing import Any, BinaryIO
 
 from .. import words
-from ..files import PART, refuse_to_overwrite, surely_come, told_of, write_beside
+from ..files import PART, read_file, refuse_to_overwrite, surely_come, told_of, write_beside
 from ..library import answer
 from ..refusal import Refusal, Refused, State
 from ..watch import Waiting, Watch, record_arrival
@@ -20,7 +21,6 @@ from .output import BadUsage, Output, Status
 MORE = ('A refusal is said at once. A file may come later than its watch, grow, be renamed and be replaced by another of its name; its bytes from its '
         'first hole on have not come.')
 POLL = 0.05  # seconds between two looks at a file that does not grow
-MOST = 1 << 30  # bytes read at once
 
 
 def add_arguments(parser: argparse.ArgumentParser) -> None:
@@ -47,7 +47,7 @@ class Arrival:
     """What has come of a product, judged as it comes: by a watch, and of a file with more than 64 pointers by the arrival judge,
     from all its bytes. `reread` gives the first so many bytes of a file."""
 
-    def __init__(self, reread: Callable[[int], bytearray] | None = None) -> None:
+    def __init__(self, reread: Callable[[int], bytes | bytearray] | None = None) -> None:
         self.watch = Watch()
         self.reread = reread
         self.data: bytearray | None = None
@@ -80,7 +80,7 @@ class Arrival:
             if refused.number != Refusal.TOO_MANY_POINTERS:
                 said = words.of_product(data)(refused.number, refused.place)
                 raise Refused(refused.number, refused.place, said) from None
-            self.data = data
+            self.data = bytearray(data)
             self.look()
 
     def look(self) -> None:
@@ -165,17 +165,6 @@ def open_when_there(name: str, patience: Patience) -> BinaryIO:
                 raise
 
 
-def read_first(handle: int, size: int) -> bytearray:
-    """The first so many bytes of a file."""
-    data = bytearray()
-    while len(data) < size:
-        part = os.pread(handle, min(MOST, size - len(data)), len(data))
-        if not part:
-            break
-        data += part
-    return data
-
-
 def is_replaced(name: str, handle: int) -> bool:
     """Whether another file stands under the name."""
     try:
@@ -192,8 +181,8 @@ def follow(name: str, handle: int, arrival: Arrival, patience: Patience, sparse:
     Raises Refused: 1 to 16. Raises OSError where the file was cut short.
     """
     while True:
-        size = os.fstat(handle).st_size
-        come = size if sparse else surely_come(handle)
+        about = os.fstat(handle)
+        size, come = about.st_size, about.st_size if sparse else surely_come(handle, about)
         part = os.pread(handle, min(PART, come - arrival.fed), arrival.fed) if come > arrival.fed else b''
         if part:
             arrival.feed(part)
@@ -219,7 +208,7 @@ def watch_file(args: argparse.Namespace, output: Output) -> Status:
     while True:
         with open_when_there(args.file, patience) as file:
             handle = file.fileno()
-            arrival = Arrival(lambda size: read_first(handle, size))
+            arrival = Arrival(functools.partial(read_file, args.file, handle))
             try:
                 with told_of(args.file):
                     is_another = follow(args.file, handle, arrival, patience, args.sparse)
@@ -230,7 +219,7 @@ def watch_file(args: argparse.Namespace, output: Output) -> Status:
             except Refused as refused:
                 status = output.tell_refusal(refused, args.file, {'bytes': arrival.fed})
             if args.record_to is not None:
-                record = record_arrival(arrival.lengths, read_first(handle, arrival.fed))
+                record = record_arrival(arrival.lengths, read_file(args.file, handle, arrival.fed))
                 write_beside(args.record_to, record, force=args.force)
             return status
 

@@ -5,16 +5,17 @@ Figures are made without pyplot, so that the caller's figures, backend and setti
 from __future__ import annotations
 
 import io
+import textwrap
 from datetime import timedelta
 from typing import TYPE_CHECKING, Any, NamedTuple
 
 from .files import PathLike, write_beside
-from .headers import CLASSES, HEADER, RecordClass, class_name
+from .headers import CLASSES, HEAD, HEADER, RecordClass, class_name
 from .product import Product, import_numpy
 from .refusal import MEANING, Refusal, Refused
 from .report import Report, named_numbers
 from .times import Time, day_length
-from .words import UNDEFINED, walk, what_it_is
+from .words import UNDEFINED, declared, walk, what_it_is
 
 if TYPE_CHECKING:
     from .overview import Overview
@@ -23,7 +24,7 @@ SUFFIXES = ('svg', 'png', 'pdf', 'jpg')
 COLOURS = ('', '#4e4e4e', '#9c9c9c', '#d4a017', '#2e7d32', '#81c784', '#6a1b9a', '#ba68c8', '#1565c0')
 GAP, OVERLAP, DUMMY, MARK = '#c62828', '#ef6c00', '#b0bec5', '#c62828'
 STATES = {'whole': '#2e7d32', 'incomplete': '#f9a825', 'refused': '#c62828', 'error': '#6d4c41'}
-SECTIONS = ((1,), (2,), (3,), (4, 5), (6, 7), (8,))
+POINTERS = (Refusal.TARGET, Refusal.POINTS_INSIDE, Refusal.POINTS_AT_OTHER)
 SHOWN_ONE_BY_ONE = 400  # beyond so many records the lines between them would hide what they part
 FINEST = 2000  # of a picture's width so many parts can be told apart: bars that are nearer are drawn as one
 LEAST = 300  # a gap or an overlap is drawn at least a 300th of the width, which is more than two pixels
@@ -118,14 +119,16 @@ def _see_part(product: Product, refused: Refused) -> Seen:
     numpy = import_numpy()
     data = memoryview(product.data)
     # a pointer that is refused stands before what it points at: there the sizes lead on
-    end = product.size if refused.number in (Refusal.POINTS_INSIDE, Refusal.POINTS_AT_OTHER, Refusal.TARGET) else max(1, refused.place)
+    end = product.size if refused.number in POINTERS else max(1, refused.place)
     rows, times = [], []
     for start, class_, size in walk(data, end) if what_it_is(data) is None else ():
         if not 1 <= class_ <= 8 or size < HEADER or start == refused.place and refused.number < Refusal.TARGET and start:
             break
         rows.append((start, min(size, product.size - start), class_, data[start + 1]))
         times.append(tuple(int.from_bytes(data[start + at:start + to], 'big') for at, to in ((8, 10), (10, 14), (14, 16), (16, 20))))
-    return Seen(numpy.array(rows, ROW), numpy.array(times, TIMES), refused, max(product.size, refused.place, 1))
+    is_part = refused.number == Refusal.UNFINISHED and product.size >= HEAD
+    width = declared(data) if is_part else max(product.size, refused.place, 1)
+    return Seen(numpy.array(rows, ROW), numpy.array(times, TIMES), refused, width)
 
 
 def runs(rows: Any) -> list[tuple[int, int, int, int]]:
@@ -213,7 +216,7 @@ def _title(product: Product) -> str:
 
 def _refusal_title(refused: Refused) -> str:
     text = f'{refused.state.value if refused.state else "refused"} {refused.number} at {refused.place}: {refused.words}'
-    return text if len(text) <= WIDEST else text[:WIDEST - 2] + '..'
+    return '\n'.join(textwrap.wrap(text, WIDEST, max_lines=3, placeholder=' ..'))
 
 
 def _along_bytes(axes: Any, seen: Seen) -> None:
@@ -225,7 +228,9 @@ def _along_bytes(axes: Any, seen: Seen) -> None:
     if seen.refused is not None:
         axes.axvline(seen.refused.place, color=MARK, linewidth=2.5, ymax=1)
         axes.plot([seen.refused.place], [1.12], marker='v', color=MARK, clip_on=False, markersize=9)
-    what = f'{len(seen.rows)} records, {seen.width:,} bytes' if seen.refused is None else f'{len(seen.rows)} records before the mark or as far as sizes lead'
+    what = f'{len(seen.rows):,} records, {seen.width:,} bytes'
+    if seen.refused is not None:
+        what = f'{len(seen.rows):,} records {"as far as their sizes lead" if seen.refused.number in POINTERS else "up to the mark"}, of {seen.width:,} bytes'
     axes.set(xlim=(0, seen.width), ylim=(0, 1), yticks=[])
     axes.set_title(what, fontsize=9, pad=14 if seen.refused is not None else 6)
     axes.xaxis.set_major_locator(MaxNLocator(8, integer=True))
@@ -235,22 +240,17 @@ def _along_bytes(axes: Any, seen: Seen) -> None:
 
 
 def _sections(axes: Any, seen: Seen) -> None:
-    """The sections that are there, as boxes of one width: beside the MDRs the others could not be seen."""
-    found = runs(seen.rows)
-    there = [[run for run in found if run[0] in section] for section in SECTIONS]
-    boxes = [section for section in there if section]
-    for k, section in enumerate(boxes):
-        counts: dict[int, int] = {}
-        for class_, _, _, count in section:
-            counts[class_] = counts.get(class_, 0) + count
-        for j, class_ in enumerate(sorted(counts)):
-            axes.broken_barh([(k + j / len(counts), 0.97 / len(counts))], (0, 1), facecolors=COLOURS[class_])
-        names = ', '.join(f'{class_name(class_)} {count:,}' for class_, count in sorted(counts.items()))
-        size = sum(run[2] for run in section)
-        axes.text(k + 0.485, 0.5, f'{names}\nfrom {section[0][1]:,}\n{size:,} bytes', ha='center', va='center', fontsize=7, color='white',
+    """The classes that are there, as boxes of one width: beside the MDRs the others could not be seen."""
+    found: dict[int, list[int]] = {}
+    for class_, start, size, count in runs(seen.rows):
+        first, bytes_, records = found.get(class_, [start, 0, 0])
+        found[class_] = [first, bytes_ + size, records + count]
+    for k, (class_, (first, bytes_, records)) in enumerate(sorted(found.items())):
+        axes.broken_barh([(k, 0.97)], (0, 1), facecolors=COLOURS[class_])
+        axes.text(k + 0.485, 0.5, f'{class_name(class_)} {records:,}\nfrom {first:,}\n{bytes_:,} bytes', ha='center', va='center', fontsize=7, color='white',
                   fontweight='bold', clip_on=True)
-    axes.set(xlim=(0, max(1, len(boxes))), ylim=(0, 1), yticks=[], xticks=[])
-    axes.set_title('sections, not to scale', fontsize=8, pad=3)
+    axes.set(xlim=(0, max(1, len(found))), ylim=(0, 1), yticks=[], xticks=[])
+    axes.set_title('records of each class, not to scale' if found else 'no record', fontsize=8, pad=3)
     for spine in axes.spines.values():
         spine.set_visible(False)
 
@@ -265,12 +265,13 @@ def _along_time(axes: Any, seen: Seen) -> None:
     width = max(high - low, 1.0)
     for level, bars, colour, name in ((2, found.bars[~found.is_dummy], COLOURS[8], 'MDR'), (2, found.bars[found.is_dummy], DUMMY, 'dummy')):
         axes.broken_barh(merged(bars, width / FINEST), (level, 0.9), facecolors=colour, label=f'{name} {len(bars):,}')
-    # last, and over the MDRs too, so that nothing hides them
+    # last, and where they are narrow over the MDRs too, so that nothing hides them
     for level, bars, colour, name in ((1, gaps, GAP, 'gap'), (0, overlaps, OVERLAP, 'overlap')):
         total = int((bars[:, 1] - bars[:, 0]).sum())
-        drawn = widened(merged(bars, width / FINEST), width / LEAST)
-        axes.broken_barh(drawn, (level, 0.9), facecolors=colour, label=f'{name} {len(bars):,}, {total:,} ms', zorder=4)
-        axes.broken_barh(drawn, (2, 0.9), facecolors=colour, zorder=4)
+        drawn = merged(bars, width / FINEST)
+        narrow = [(start, length) for start, length in drawn if length < width / LEAST]
+        axes.broken_barh(widened(drawn, width / LEAST), (level, 0.9), facecolors=colour, label=f'{name} {len(bars):,}, {total:,} ms', zorder=4)
+        axes.broken_barh(widened(narrow, width / LEAST), (2, 0.9), facecolors=colour, zorder=4)
     axes.set(xlim=(low - width / 100, high + width / 100), ylim=(0, 3), yticks=[0.45, 1.45, 2.45], yticklabels=['overlaps', 'gaps', 'MDRs'])
     axes.tick_params(labelsize=8)
     _clock(axes, found.day, low, high)
@@ -335,7 +336,7 @@ def picture_of_report(report: Report, suffix: str = 'svg') -> bytes:
     """Records and bytes of each class, and what was accepted and refused, and why."""
     of = report.as_dict()
     figure = _new_figure(11, 4)
-    axes = figure.subplots(1, 3, gridspec_kw={'width_ratios': (1, 1, 1.2)})
+    axes = figure.subplots(1, 3, gridspec_kw={'width_ratios': (1, 1, 1.9)})
     _bars_by_class(axes[0], 'records', of['records'])
     _bars_by_class(axes[1], 'bytes', of['bytes'])
     verdicts = {'accepted': of['accepted'], **{f'refused {number}': count for number, count in of['refused'].items()}}
@@ -343,8 +344,9 @@ def picture_of_report(report: Report, suffix: str = 'svg') -> bytes:
     most = max(1, *verdicts.values())
     for k, (name, count) in enumerate(verdicts.items()):
         meaning = '' if name == 'accepted' else f'  {MEANING[int(name.split()[1])]}'
-        axes[2].text(count + most / 60, k, f'{count:,}{meaning[:48]}', va='center', fontsize=6 if meaning else 8, clip_on=True)
-    axes[2].set(xlim=(0, 1.6 * most), xticks=[])
+        text = f'{count:,}{meaning}'
+        axes[2].text(count + most / 30, k, text if len(text) <= 64 else text[:62] + '..', va='center', fontsize=7, clip_on=True)
+    axes[2].set(xlim=(0, 3.4 * most), xticks=[])
     axes[2].set_title('products', fontsize=9)
     axes[2].tick_params(labelsize=8)
     axes[2].invert_yaxis()
@@ -411,11 +413,12 @@ def _days(axes: Any, overview: Overview) -> None:
         below = [one + other for one, other in zip(below, counts)]
     shown = range(0, len(days), max(1, len(days) // 8))
     names = list(days)
-    axes.set(xticks=list(shown), ylim=(0, 1.25 * max([*below, 1])))
+    axes.set(xticks=list(shown), ylim=(0, 1.45 * max([*below, 1])))
     axes.set_xticklabels([names[k] for k in shown], rotation=30, ha='right', fontsize=7)
     for k, count in enumerate(below if len(days) <= 16 else ()):
         axes.text(k, count, f'{count:,}', ha='center', va='bottom', fontsize=7)
     axes.set_title('products of each day', fontsize=9)
+    axes.yaxis.get_major_locator().set_params(integer=True)
     axes.tick_params(axis='y', labelsize=8)
     axes.legend(fontsize=7, frameon=False, loc='upper right')
 
@@ -431,7 +434,7 @@ def _reasons(axes: Any, faults: list[dict[str, Any]]) -> None:
 
 
 def _reason(entry: dict[str, Any]) -> str:
-    name = entry['file'].rsplit('/', 1)[-1]
+    name = entry['file'] if len(entry['file']) <= 60 else '..' + entry['file'][-58:]
     why = entry['error']['words'] if entry['state'] == 'error' else f'{entry["refusal"]["number"]} at {entry["refusal"]["place"]}: {entry["refusal"]["words"]}'
     text = f'{entry["state"]}: {name}: {why}'
     return text if len(text) <= 165 else text[:163] + '..'

@@ -46,10 +46,10 @@ def in_pieces(pieces):
     return b''.join(bytes.fromhex(data) * times for data, times in pieces)
 
 
-def said(function, *given):
+def said(function, *given, **named):
     """What a call gives, or its refusal as the vectors write it."""
     try:
-        return function(*given)
+        return function(*given, **named)
     except Refused as refused:
         return ['refused', refused.number, refused.place]
 
@@ -71,6 +71,7 @@ def samples(tmp_path_factory):
 def library():
     """Where the shared library is, for programs that are started."""
     from warpladle.library import places
+
     return next(path for path in places() if path.exists())
 
 
@@ -93,7 +94,7 @@ def main_header(samples, size, mdrs):
     for name, value in values.items():
         k = NAMES.index(name)
         at, width = line_start(k) + 32, FIELDS[k][1]
-        head[at:at + width] = b'%*d' % (width, value)
+        head[at : at + width] = b'%*d' % (width, value)
     return head
 
 
@@ -113,7 +114,8 @@ def large(samples, tmp_path_factory):
 
 @pytest.fixture(scope='session')
 def sparse(samples, tmp_path_factory):
-    """The largest product there is, of 2,147,483,647 bytes, with a small MDR between two of a gigabyte: a file with holes, of some kilobytes on the disk."""
+    """The largest product there is, of 2,147,483,647 bytes, with a small MDR between two of a gigabyte: a file with
+    holes, of some kilobytes on the disk."""
     path = tmp_path_factory.mktemp('sparse') / '2gb.eps'
     sizes = [2**30, 120, LARGEST - HEAD - 2**30 - 120]
     with open(path, 'wb') as file:
@@ -146,7 +148,7 @@ class Done(NamedTuple):
     @property
     def value(self):
         """The one line of JSON."""
-        one, = self.values
+        (one,) = self.values
         return one
 
 
@@ -158,9 +160,13 @@ def command(*words):
 @pytest.fixture
 def run(environment, tmp_path):
     """Runs the command in a folder of its own."""
+
     def run(*words, stdin=b'', cwd=tmp_path, **options):
-        done = subprocess.run(command(*words), input=stdin, capture_output=True, cwd=cwd, env={**environment, **options})
+        done = subprocess.run(
+            command(*words), input=stdin, capture_output=True, cwd=cwd, env={**environment, **options}
+        )
         return Done(done.returncode, done.stdout.decode(), done.stderr.decode())
+
     return run
 
 
@@ -170,9 +176,17 @@ def started(environment, tmp_path):
     processes = []
 
     def start(*words, **options):
-        given = {'stdin': subprocess.PIPE, 'stdout': subprocess.PIPE, 'stderr': subprocess.PIPE, 'cwd': tmp_path, 'env': environment, **options}
+        given = {
+            'stdin': subprocess.PIPE,
+            'stdout': subprocess.PIPE,
+            'stderr': subprocess.PIPE,
+            'cwd': tmp_path,
+            'env': environment,
+            **options,
+        }
         processes.append(subprocess.Popen(command(*words), **given))
         return processes[-1]
+
     yield start
     for process in processes:
         if process.poll() is None:

@@ -7,7 +7,7 @@ from fields import FIELDS, HEAD, NAMES, line_start
 
 CLASSES = ('MPHR', 'SPHR', 'IPR', 'GEADR', 'GIADR', 'VEADR', 'VIADR', 'MDR')
 DAY = 6000  # 5 June 2016
-UNDEFINED = (0xffff, 0xffffffff)
+UNDEFINED = (0xFFFF, 0xFFFFFFFF)
 
 
 def record(kind, payload=b'', start=(DAY, 0), stop=(DAY, 1000), version=1):
@@ -27,7 +27,7 @@ def with_values(data, **values):
         at, width = line_start(k) + 32, FIELDS[k][1]
         text = str(value).rjust(width).encode()
         assert len(text) == width, (name, value)
-        out[at:at + width] = text
+        out[at : at + width] = text
     return bytes(out)
 
 
@@ -43,7 +43,9 @@ def product(records, **values):
     totals = {f'TOTAL_{name}': sum(one[0] == c for one in records) for c, name in enumerate(CLASSES, 1)}
     totals['TOTAL_MPHR'] = 1
     size = HEAD + sum(map(len, records))
-    return with_values(head, **{**totals, 'TOTAL_RECORDS': 1 + len(records), 'ACTUAL_PRODUCT_SIZE': size, **values}) + b''.join(records)
+    return with_values(
+        head, **{**totals, 'TOTAL_RECORDS': 1 + len(records), 'ACTUAL_PRODUCT_SIZE': size, **values}
+    ) + b''.join(records)
 
 
 def clock(second):
@@ -52,13 +54,24 @@ def clock(second):
 
 
 def granule(k, length=180, step=10, mdr=40, gap=0, **values):
-    """Granule k of a pass, of `length` seconds with an MDR each `step`: its SPHR and global records have the times of its own first and last
-    MDR, as 002's Table 15 has it."""
+    """Granule k of a pass, of `length` seconds with an MDR each `step`: its SPHR and global records have the times of
+    its own first and last MDR, as 002's Table 15 has it."""
     begin = 3600 + k * (length + gap)
     first, last = (DAY, 1000 * begin), (DAY, 1000 * (begin + length))
     fixed = [record((2, 9, 0), b'SUBTITLE = X\n', first, last), record((5, 9, 1), b'\x01' * 30, first, last)]
-    mdrs = [record((8, 9, 2), bytes([k % 256]) * (mdr - 20), (DAY, 1000 * at), (DAY, 1000 * (at + step))) for at in range(begin, begin + length, step)]
+    mdrs = [
+        record((8, 9, 2), bytes([k % 256]) * (mdr - 20), (DAY, 1000 * at), (DAY, 1000 * (at + step)))
+        for at in range(begin, begin + length, step)
+    ]
     name = f'MHSx_xxx_1B_M02_{clock(begin)}_{clock(begin + length)}_N_O_20160605200000Z'
-    lines = {'PRODUCT_NAME': name, 'INSTRUMENT_ID': 'MHSx', 'PROCESSING_LEVEL': '1B', 'SPACECRAFT_ID': 'M02', 'SENSING_START': clock(begin),
-             'SENSING_END': clock(begin + length), 'ORBIT_START': 50100, 'ORBIT_END': 50100}
+    lines = {
+        'PRODUCT_NAME': name,
+        'INSTRUMENT_ID': 'MHSx',
+        'PROCESSING_LEVEL': '1B',
+        'SPACECRAFT_ID': 'M02',
+        'SENSING_START': clock(begin),
+        'SENSING_END': clock(begin + length),
+        'ORBIT_START': 50100,
+        'ORBIT_END': 50100,
+    }
     return product(fixed + mdrs, **{**lines, **values})

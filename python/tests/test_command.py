@@ -24,9 +24,17 @@ SHORT = 'incomplete 17 4000: expected 4356 bytes, as declared, found 4000'
 
 
 def test_check(run, rich, short, samples):
-    assert run('check', rich, samples / 'example.eps') == (0, f'{rich}: 15 records\n{samples}/example.eps: 2 records\n', '')
+    assert run('check', rich, samples / 'example.eps') == (
+        0,
+        f'{rich}: 15 records\n{samples}/example.eps: 2 records\n',
+        '',
+    )
     assert run('check', rich, short) == (3, f'{rich}: 15 records\n{short}: {SHORT}\n', '')
-    assert run('check', 'none', short, rich) == (2, f'{short}: {SHORT}\n{rich}: 15 records\n', 'warpladle: none: No such file or directory\n')
+    assert run('check', 'none', short, rich) == (
+        2,
+        f'{short}: {SHORT}\n{rich}: 15 records\n',
+        'warpladle: none: No such file or directory\n',
+    )
     assert run('check', '-', stdin=rich.read_bytes()) == (0, '-: 15 records\n', '')
     assert run('check', '/dev/stdin', stdin=rich.read_bytes()) == (0, '/dev/stdin: 15 records\n', '')
 
@@ -35,11 +43,25 @@ def test_check_for_a_program(run, rich, short):
     done = run('check', '--json', rich, short, 'none')
     name = 'MHSx_xxx_1B_M02_20160605000000Z_20160605000025Z_N_O_20160605003000Z'
     assert done.status == 2 and done.values == [
-        {'file': str(rich), 'state': 'whole', 'accepted': True, 'records': 15, 'bytes': 4356, 'product_name': name, 'sensing_start': '2016-06-05T00:00:00Z',
-         'sensing_end': '2016-06-05T00:00:25Z'},
-        {'file': str(short), 'state': 'incomplete', 'accepted': False, 'bytes': 4000,
-         'refusal': {'number': 17, 'place': 4000, 'words': 'expected 4356 bytes, as declared, found 4000'}},
-        {'file': 'none', 'state': 'error', 'error': {'words': 'No such file or directory'}}]
+        {
+            'file': str(rich),
+            'state': 'whole',
+            'accepted': True,
+            'records': 15,
+            'bytes': 4356,
+            'product_name': name,
+            'sensing_start': '2016-06-05T00:00:00Z',
+            'sensing_end': '2016-06-05T00:00:25Z',
+        },
+        {
+            'file': str(short),
+            'state': 'incomplete',
+            'accepted': False,
+            'bytes': 4000,
+            'refusal': {'number': 17, 'place': 4000, 'words': 'expected 4356 bytes, as declared, found 4000'},
+        },
+        {'file': 'none', 'state': 'error', 'error': {'words': 'No such file or directory'}},
+    ]
 
 
 def test_list(run, rich, short):
@@ -53,24 +75,44 @@ def test_list(run, rich, short):
 
 
 def test_fields(run, rich):
-    assert run('fields', rich, 'ORBIT_START', 'SENSING_END', 'STATE_VECTOR_TIME', 'LEAP_SECOND_UTC', 'INSTRUMENT_MODEL') == (0, (
-        'ORBIT_START                   = 50123\nSENSING_END                   = 2016-06-05T00:00:25Z\n'
-        'STATE_VECTOR_TIME             = 2016-06-04T23:50:12.345Z\nLEAP_SECOND_UTC               = undefined\n'
-        'INSTRUMENT_MODEL              =   2\n'), '')
+    assert run(
+        'fields', rich, 'ORBIT_START', 'SENSING_END', 'STATE_VECTOR_TIME', 'LEAP_SECOND_UTC', 'INSTRUMENT_MODEL'
+    ) == (
+        0,
+        (
+            'ORBIT_START                   = 50123\nSENSING_END                   = 2016-06-05T00:00:25Z\n'
+            'STATE_VECTOR_TIME             = 2016-06-04T23:50:12.345Z\nLEAP_SECOND_UTC               = undefined\n'
+            'INSTRUMENT_MODEL              =   2\n'
+        ),
+        '',
+    )
     status, out, _ = run('fields', rich)
     assert status == 0 and len(out.splitlines()) == 72
     status, out, _ = run('fields', '--json', rich)
     values = json.loads(out)['fields']
-    assert status == 0 and len(values) == 72 and values['LEAP_SECOND_UTC'] is None and values['SENSING_START'] == '2016-06-05T00:00:00Z'
+    assert (
+        status == 0
+        and len(values) == 72
+        and values['LEAP_SECOND_UTC'] is None
+        and values['SENSING_START'] == '2016-06-05T00:00:00Z'
+    )
     done = run('fields', rich, 'HUMIDITY')
-    assert done == (2, '', f"warpladle: {rich}: refused 22 0: expected the name of one of the 72 fields, found 'HUMIDITY'\n")
+    assert done == (
+        2,
+        '',
+        f"warpladle: {rich}: refused 22 0: expected the name of one of the 72 fields, found 'HUMIDITY'\n",
+    )
 
 
 def test_a_leap_second_in_a_field(run, rich, tmp_path):
     at = Product(rich).data.find(b'SENSING_END  ') + 32
     data = rich.read_bytes()
-    (tmp_path / 'leap.eps').write_bytes(data[:at] + b'20161231235960Z' + data[at + 15:])
-    assert run('fields', 'leap.eps', 'SENSING_END') == (0, 'SENSING_END                   = 2016-12-31T23:59:60.000Z\n', '')
+    (tmp_path / 'leap.eps').write_bytes(data[:at] + b'20161231235960Z' + data[at + 15 :])
+    assert run('fields', 'leap.eps', 'SENSING_END') == (
+        0,
+        'SENSING_END                   = 2016-12-31T23:59:60.000Z\n',
+        '',
+    )
 
 
 def test_watch_standard_input(run, rich):
@@ -81,14 +123,23 @@ def test_watch_standard_input(run, rich):
     status, out, _ = run('watch', stdin=data + b'!')
     assert status == 1 and out.startswith('-: refused 16 4356: ')
     assert json.loads(run('watch', '--json', stdin=data)[1]) == {
-        'file': '-', 'state': 'whole', 'accepted': True, 'records': 15, 'end': 4356, 'bytes': 4356, 'declared': 4356}
+        'file': '-',
+        'state': 'whole',
+        'accepted': True,
+        'records': 15,
+        'end': 4356,
+        'bytes': 4356,
+        'declared': 4356,
+    }
 
 
 def test_a_refusal_is_said_while_the_pipe_is_still_open(started):
     with started('watch') as watching:
         watching.stdin.write(b'x' * 20)
         watching.stdin.flush()
-        assert watching.stdout.readline().startswith(b'-: refused 1 0: expected a first header of class 1, group 0, subclass 0, size 3307, found class 120, ')
+        assert watching.stdout.readline().startswith(
+            b'-: refused 1 0: expected a first header of class 1, group 0, subclass 0, size 3307, found class 120, '
+        )
         assert watching.wait(10) == 1
 
 
@@ -99,7 +150,7 @@ def test_a_file_that_grows_while_it_is_watched(started, rich, tmp_path, run):
         for start in range(0, len(data), 1000):
             time.sleep(0.1)
             assert watching.poll() is None
-            file.write(data[start:start + 1000])
+            file.write(data[start : start + 1000])
         assert watching.stdout.readline().decode() == f'{path}: whole, 15 records, 4356 bytes\n'
         assert watching.wait(10) == 0
     lengths = record.read_bytes()
@@ -115,7 +166,13 @@ def test_a_growing_file_that_is_refused_is_said_at_once(started, rich, tmp_path)
         time.sleep(0.2)
         assert watching.poll() is None
         file.write(bytes(100))
-        assert watching.stdout.readline().decode().startswith(f'{path}: refused 7 3422: expected a class of 1 to 8 and a group of 0 to 13, 15 or 99, found class 0, ')
+        assert (
+            watching.stdout.readline()
+            .decode()
+            .startswith(
+                f'{path}: refused 7 3422: expected a class of 1 to 8 and a group of 0 to 13, 15 or 99, found class 0, '
+            )
+        )
         assert watching.wait(10) == 1
 
 
@@ -131,8 +188,16 @@ def test_a_file_that_stops_growing_or_is_cut_short(started, rich, tmp_path, run)
 
 
 def test_watch_and_record_need_a_file(run):
-    assert run('watch', '--record', 'out') == (2, '', 'warpladle: a record is made of the file that was watched: name one\n')
-    assert run('watch', 'none', '--wait', '0', '--record', 'out') == (2, '', 'warpladle: none: No such file or directory\n')
+    assert run('watch', '--record', 'out') == (
+        2,
+        '',
+        'warpladle: a record is made of the file that was watched: name one\n',
+    )
+    assert run('watch', 'none', '--wait', '0', '--record', 'out') == (
+        2,
+        '',
+        'warpladle: none: No such file or directory\n',
+    )
 
 
 def test_cut(run, rich, tmp_path):
@@ -141,12 +206,27 @@ def test_cut(run, rich, tmp_path):
     made = (tmp_path / 'town.eps').read_bytes()
     assert made == bytes(Product(rich).cut(*TOWN)) and os.listdir(tmp_path) == ['town.eps']
     assert os.stat(tmp_path / 'town.eps').st_mode & 0o777 == 0o666 & ~umask()
-    assert run('cut', rich, *TOWN, '-o', 'town.eps') == (2, '', 'warpladle: town.eps: it is there already and is kept; --force replaces it\n')
+    assert run('cut', rich, *TOWN, '-o', 'town.eps') == (
+        2,
+        '',
+        'warpladle: town.eps: it is there already and is kept; --force replaces it\n',
+    )
     assert run('cut', rich, TOWN[0], TOWN[0], '-o', 'town.eps', '--force', '--json').value == {
-        'file': 'town.eps', 'state': 'whole', 'records': 12, 'bytes': 3795, 'mdrs': 1, 'of_mdrs': 4}
-    assert run('cut', rich, *TOWN[::-1], '-o', 'other.eps') == (2, '', (
-        f'warpladle: {rich}: refused 25 0: expected a window of two times, the first not after the last, found '
-        '2016-06-05T00:00:20.000Z to 2016-06-05T00:00:08.000Z\n'))
+        'file': 'town.eps',
+        'state': 'whole',
+        'records': 12,
+        'bytes': 3795,
+        'mdrs': 1,
+        'of_mdrs': 4,
+    }
+    assert run('cut', rich, *TOWN[::-1], '-o', 'other.eps') == (
+        2,
+        '',
+        (
+            f'warpladle: {rich}: refused 25 0: expected a window of two times, the first not after the last, found '
+            '2016-06-05T00:00:20.000Z to 2016-06-05T00:00:08.000Z\n'
+        ),
+    )
     assert os.listdir(tmp_path) == ['town.eps']
 
 
@@ -158,11 +238,18 @@ def umask():
 
 def test_pipes_from_end_to_end(run, started, rich, tmp_path, environment):
     whole, town = rich.read_bytes(), bytes(Product(rich).cut(*TOWN))
-    done = subprocess.run([sys.executable, '-B', '-m', 'warpladle', 'cut', '-', *TOWN, '-q', '-o', '-'], input=whole, env=environment, capture_output=True)
+    done = subprocess.run(
+        [sys.executable, '-B', '-m', 'warpladle', 'cut', '-', *TOWN, '-q', '-o', '-'],
+        input=whole,
+        env=environment,
+        capture_output=True,
+    )
     assert (done.returncode, done.stdout, done.stderr) == (0, town, b'')
     assert run('compare', rich, '-', stdin=town)[0] == 0
     names = three_cuts(rich, tmp_path)
-    done = subprocess.run([sys.executable, '-B', '-m', 'warpladle', 'join', *names, '-o', '-'], env=environment, capture_output=True)
+    done = subprocess.run(
+        [sys.executable, '-B', '-m', 'warpladle', 'join', *names, '-o', '-'], env=environment, capture_output=True
+    )
     a, b, c = map(Product, names)
     assert (done.returncode, done.stdout) == (0, bytes(a.join(b).join(c)))
     status, out, err = run('cut', '-', *TOWN, '-o', '-', stdin=whole[:-1])
@@ -186,7 +273,10 @@ def test_a_cut_that_cannot_be_written_leaves_nothing(run, rich, short, tmp_path)
 
 
 def test_times_of_the_command_line(run, rich):
-    for first, words in (('yesterday', "'yesterday' is no time as"), ('2015-02-29', 'expected a time of 2000-01-01 to 2179-06-06, found 2015-02-29')):
+    for first, words in (
+        ('yesterday', "'yesterday' is no time as"),
+        ('2015-02-29', 'expected a time of 2000-01-01 to 2179-06-06, found 2015-02-29'),
+    ):
         status, out, err = run('cut', rich, first, TOWN[1], '-o', 'town.eps')
         assert (status, out) == (2, '') and words in err
 
@@ -211,8 +301,14 @@ def test_join(run, rich, tmp_path):
     assert sorted(os.listdir(tmp_path)) == ['0.eps', '1.eps', '2.eps', 'pass.eps']
     assert run('join', *names, '-o', 'pass.eps')[0] == 2
     done = run('join', *names[::-1], '-o', 'back.eps')
-    assert done == (2, '', (f'warpladle: back.eps: refused 27 0: expected {names[1]} to start at 2016-06-05T00:00:25.000Z or later, or 1 ms before, '
-                            f'where {names[2]} stops, found 2016-06-05T00:00:08.000Z, 17000 ms before\n'))
+    assert done == (
+        2,
+        '',
+        (
+            f'warpladle: back.eps: refused 27 0: expected {names[1]} to start at 2016-06-05T00:00:25.000Z or later, or'
+            f' 1 ms before, where {names[2]} stops, found 2016-06-05T00:00:08.000Z, 17000 ms before\n'
+        ),
+    )
     assert run('join', names[0], '-o', 'one.eps') == (2, '', 'warpladle: a join takes two files or more\n')
     assert run('join', names[0], 'none', '-o', 'one.eps') == (2, '', 'warpladle: none: No such file or directory\n')
 
@@ -221,12 +317,22 @@ def test_compare(run, rich, short, tmp_path):
     Product(rich).cut(*TOWN, tmp_path / 'town.eps')
     assert run('compare', rich, 'town.eps') == (0, f'yes: town.eps is a cut of {rich}\n', '')
     done = run('compare', 'town.eps', rich)
-    assert done.status == 1 and done.out.startswith(f'no: {rich} is no cut of town.eps, at 3675: MDR 1 at 3675 (220 bytes, ')
-    assert run('compare', '--json', rich, 'town.eps').value == {'file': 'town.eps', 'original': str(rich), 'state': 'whole', 'is_cut': True}
+    assert done.status == 1 and done.out.startswith(
+        f'no: {rich} is no cut of town.eps, at 3675: MDR 1 at 3675 (220 bytes, '
+    )
+    assert run('compare', '--json', rich, 'town.eps').value == {
+        'file': 'town.eps',
+        'original': str(rich),
+        'state': 'whole',
+        'is_cut': True,
+    }
     value = run('compare', '--json', 'town.eps', rich).value
     assert (value['is_cut'], value['place'], value['state']) == (False, 3675, 'whole')
     done = run('compare', rich, short)
-    assert done.status == 3 and done.out == f'{short}: incomplete 17 4000: {short}: expected 4356 bytes, as declared, found 4000\n'
+    assert (
+        done.status == 3
+        and done.out == f'{short}: incomplete 17 4000: {short}: expected 4356 bytes, as declared, found 4000\n'
+    )
     assert run('compare', rich, 'none').status == 2
 
 
@@ -235,9 +341,15 @@ def test_join_of_request_seven(run, rich, tmp_path):
         (tmp_path / f'{k}.eps').write_bytes(granule(k))
     assert run('join', '0.eps', '1.eps', '-o', 'pass.eps') == (0, 'pass.eps: 41 records, 4884 bytes\n', '')
     done = run('join', '0.eps', '1.eps', '-o', 'other.eps', '--identical')
-    assert (done.status, done.out) == (2, '') and 'refused 26 0: ' in done.err and '--identical was asked for' in done.err
+    assert (
+        (done.status, done.out) == (2, '') and 'refused 26 0: ' in done.err and '--identical was asked for' in done.err
+    )
     names = three_cuts(rich, tmp_path / 'cuts')
-    assert run('join', *names, '-o', 'a.eps', '-q').status == run('join', *names, '-o', 'b.eps', '-q', '--identical').status == 0
+    assert (
+        run('join', *names, '-o', 'a.eps', '-q').status
+        == run('join', *names, '-o', 'b.eps', '-q', '--identical').status
+        == 0
+    )
     assert (tmp_path / 'a.eps').read_bytes() == (tmp_path / 'b.eps').read_bytes()
 
 
@@ -245,14 +357,21 @@ def test_level0(run, samples, rich):
     status, out, _ = run('level0', samples / 'example.eps', rich)
     assert status == 1
     assert out.splitlines()[0] == f'{samples}/example.eps: 2 records'
-    assert out.splitlines()[1].startswith(f'{rich}: refused 29 3622: expected a VIADR of group 0, subclass 0, version 1 or 2, found class 7, group 9')
+    assert out.splitlines()[1].startswith(
+        f'{rich}: refused 29 3622: expected a VIADR of group 0, subclass 0, version 1 or 2, found class 7, group 9'
+    )
     assert json.loads(run('level0', '--json', rich)[1])['refusal']['number'] == 29
 
 
 def test_uth(run, samples, rich):
     path = samples / 'humidity.uth'
     assert run('uth', path) == (0, '40 41 23.50 241.25\n40 42 31.00 -\n41 40 18.25 243.50\n41 40 19.50 243.00\n', '')
-    assert json.loads(run('uth', '--json', path)[1])['blocks'][1] == {'line': 40, 'column': 42, 'uth': 31.0, 'csr': None}
+    assert json.loads(run('uth', '--json', path)[1])['blocks'][1] == {
+        'line': 40,
+        'column': 42,
+        'uth': 31.0,
+        'csr': None,
+    }
     status, out, _ = run('uth', rich)
     assert status == 1 and out.startswith(f'{rich}: refused 32 642: expected a line and a column of 1 to 80, found ')
 
@@ -264,9 +383,16 @@ def test_replay(run, rich, tmp_path):
     record[-1] ^= 1
     (tmp_path / 'record').write_bytes(record)
     assert run('replay', 'record', rich) == (1, 'part 1: its answer is not as recorded\n', '')
-    assert run('replay', '--json', 'record', rich).value == {'file': str(rich), 'record': 'record', 'state': 'whole', 'part': 1}
+    assert run('replay', '--json', 'record', rich).value == {
+        'file': str(rich),
+        'record': 'record',
+        'state': 'whole',
+        'part': 1,
+    }
     (tmp_path / 'record').write_bytes(record[:-1])
-    assert run('replay', 'record', rich).err.startswith('warpladle: record: refused 37 0: expected 8 bytes, 4 for each part and 12')
+    assert run('replay', 'record', rich).err.startswith(
+        'warpladle: record: refused 37 0: expected 8 bytes, 4 for each part and 12'
+    )
 
 
 def test_a_name_of_any_bytes(environment, rich, tmp_path):
@@ -274,14 +400,29 @@ def test_a_name_of_any_bytes(environment, rich, tmp_path):
     with open(name, 'wb') as file:
         file.write(rich.read_bytes())
     for words in ([], ['--json']):
-        done = subprocess.run([sys.executable, '-B', '-m', 'warpladle', 'check', *words, name], env=environment, capture_output=True)
+        done = subprocess.run(
+            [sys.executable, '-B', '-m', 'warpladle', 'check', *words, name], env=environment, capture_output=True
+        )
         assert (done.returncode, done.stderr) == (0, b'') and b'15' in done.stdout
 
 
 def test_help_and_bad_usage(run):
     status, out, _ = run('--help')
     assert status == 0
-    for name in ('check', 'list', 'fields', 'watch', 'cut', 'join', 'compare', 'level0', 'uth', 'report', 'replay', 'picture'):
+    for name in (
+        'check',
+        'list',
+        'fields',
+        'watch',
+        'cut',
+        'join',
+        'compare',
+        'level0',
+        'uth',
+        'report',
+        'replay',
+        'picture',
+    ):
         assert f'    {name} ' in out
         assert run(name, '--help')[0] == 0
     assert run()[0] == 2 and run('nothing')[0] == 2

@@ -16,19 +16,30 @@ def damaged(rng, data):
             out[at] = rng.choice([0, 1, 8, 13, 32, 48, 49, 57, 120, 255, rng.randrange(256)])
     if rng.random() < 0.1:
         return bytes(out) + bytes(rng.randrange(30))
-    return bytes(out[:rng.randrange(len(out))]) if rng.random() < 0.1 else bytes(out)
+    return bytes(out[: rng.randrange(len(out))]) if rng.random() < 0.1 else bytes(out)
 
 
 def test_whatever_the_bytes_are(given, samples):
     rng = random.Random(20261116)
-    cases = [case for case in given.lines('requests/six.jsonl')[:40] if case['answer'][0] == 'rows' and 'pieces' not in case]
+    cases = [
+        case for case in given.lines('requests/six.jsonl')[:40] if case['answer'][0] == 'rows' and 'pieces' not in case
+    ]
     whole = [(samples / 'rich.eps').read_bytes(), *map(given.product, cases)]
     seen = set()
     for _ in range(10000):
         data = damaged(rng, rng.choice(whole))
         product = Product(data)
-        calls = (lambda: product.verdict, product.level0, lambda: product.fields, lambda: product.record(3), lambda: product.cut('2016-06-05', '2016-06-06'),
-                 lambda: product.join(product), lambda: product.is_cut_of(product), lambda: Watch().feed(data), product.listing)
+        calls = (
+            lambda: product.verdict,
+            product.level0,
+            lambda: product.fields,
+            lambda: product.record(3),
+            lambda: product.cut('2016-06-05', '2016-06-06'),
+            lambda: product.join(product),
+            lambda: product.is_cut_of(product),
+            lambda: Watch().feed(data),
+            product.listing,
+        )
         for call in calls:
             try:
                 call()

@@ -31,7 +31,12 @@ def in_one_process(names):
 
 
 def test_the_script_counts_what_one_process_counts(files, environment):
-    done = subprocess.run([sys.executable, '-B', ROOT / 'examples' / 'month_dask.py', *files], env=environment, capture_output=True, text=True)
+    done = subprocess.run(
+        [sys.executable, '-B', ROOT / 'examples' / 'month_dask.py', *files],
+        env=environment,
+        capture_output=True,
+        text=True,
+    )
     assert done.returncode == 0, done.stderr
     expected = in_one_process(files).as_dict()
     assert json.loads(done.stdout) == json.loads(json.dumps(expected))
@@ -43,7 +48,11 @@ def client(environment):
     """Two workers in processes of their own."""
     sys.path.insert(0, str(ROOT / 'examples'))
     from distributed import Client, LocalCluster
-    os.environ.update(PYTHONPATH=f"{environment['PYTHONPATH']}:{ROOT / 'examples'}", WARPLADLE_LIBRARY=environment['WARPLADLE_LIBRARY'])
+
+    os.environ.update(
+        PYTHONPATH=f"{environment['PYTHONPATH']}:{ROOT / 'examples'}",
+        WARPLADLE_LIBRARY=environment['WARPLADLE_LIBRARY'],
+    )
     with LocalCluster(n_workers=2, threads_per_worker=1, dashboard_address=None) as cluster, Client(cluster) as client:
         yield client
 
@@ -54,6 +63,7 @@ def test_two_workers_take_part(client, files):
 
     def where(_):
         import time
+
         time.sleep(0.2)
         return get_worker().address
 
@@ -65,6 +75,7 @@ def test_two_workers_take_part(client, files):
 
 def test_a_full_report_comes_back_as_36(client, files):
     import month_dask
+
     with pytest.raises(Refused) as caught:
         month_dask.month(client, files * 16, 269)
     assert caught.value.number == 36

@@ -1,4 +1,5 @@
-"""The first hour: a missing library, numpy, matplotlib or an old Python are a line that says what to do; ./warpladle makes the library."""
+"""The first hour: a missing library, numpy, matplotlib or an old Python are a line that says what to do; ./warpladle
+makes the library."""
 import os
 import subprocess
 import sys
@@ -38,6 +39,7 @@ def every_command(rich, samples):
 @pytest.fixture
 def prepared(tmp_path, rich):
     from warpladle import Product, record_arrival
+
     product = Product(rich)
     (tmp_path / 'later.eps').write_bytes(bytes(product.cut('2016-06-06', '2016-06-07')))
     (tmp_path / 'own.eps').write_bytes(rich.read_bytes())
@@ -58,8 +60,13 @@ def test_no_command_but_pictures_needs_numpy(run, prepared, rich, samples, envir
 def test_no_numpy_is_a_sentence(environment, tmp_path, rich):
     path = f'{without(tmp_path / "bare", "numpy")}:{environment["PYTHONPATH"]}'
     code = f'import warpladle; warpladle.Product({str(rich)!r}).rows'
-    done = subprocess.run([sys.executable, '-c', code], env={**environment, 'PYTHONPATH': path}, capture_output=True, text=True)
-    assert done.stderr.splitlines()[-1] == 'warpladle.product.NoNumpy: this needs numpy, which is not installed here (Debian: python3-numpy): none here'
+    done = subprocess.run(
+        [sys.executable, '-c', code], env={**environment, 'PYTHONPATH': path}, capture_output=True, text=True
+    )
+    assert (
+        done.stderr.splitlines()[-1]
+        == 'warpladle.product.NoNumpy: this needs numpy, which is not installed here (Debian: python3-numpy): none here'
+    )
 
 
 def test_no_library_is_a_sentence(run, prepared, rich, samples):
@@ -67,11 +74,25 @@ def test_no_library_is_a_sentence(run, prepared, rich, samples):
     for words in every_command(rich, samples):
         done = run(*words, WARPLADLE_LIBRARY=str(library))
         assert (done.status, done.out) == (2, ''), (words, done)
-        assert done.err == f'warpladle: there is no {library}: make it with tools/archive, or name one in WARPLADLE_LIBRARY\n', words
+        assert (
+            done.err
+            == f'warpladle: there is no {library}: make it with tools/archive, or name one in WARPLADLE_LIBRARY\n'
+        ), words
     (prepared / 'text.so').write_text('no library')
     done = run('check', rich, WARPLADLE_LIBRARY=str(prepared / 'text.so'))
-    assert (done.status, done.out) == (2, '') and f'{prepared}/text.so cannot be loaded' in done.err and 'tools/archive makes one for this machine' in done.err
-    for words in (['--version'], ['--help'], ['help', 'cut'], ['cut', '--help'], ['explain', '13'], ['completion', 'bash']):
+    assert (
+        (done.status, done.out) == (2, '')
+        and f'{prepared}/text.so cannot be loaded' in done.err
+        and 'tools/archive makes one for this machine' in done.err
+    )
+    for words in (
+        ['--version'],
+        ['--help'],
+        ['help', 'cut'],
+        ['cut', '--help'],
+        ['explain', '13'],
+        ['completion', 'bash'],
+    ):
         assert run(*words, WARPLADLE_LIBRARY=str(library)).status == 0, words
 
 
@@ -80,7 +101,9 @@ def test_an_old_python_is_a_sentence(environment, tmp_path, rich):
     old = {**environment, 'PYTHONPATH': f'{tmp_path}:{environment["PYTHONPATH"]}'}
     done = subprocess.run(command('check', rich), env=old, capture_output=True, text=True)
     assert (done.returncode, done.stdout) == (1, '')
-    assert done.stderr == 'warpladle needs Python 3.10 or newer, and this is 3.9; PYTHON names another for ./warpladle\n'
+    assert (
+        done.stderr == 'warpladle needs Python 3.10 or newer, and this is 3.9; PYTHON names another for ./warpladle\n'
+    )
     done = subprocess.run([sys.executable, '-c', 'import warpladle'], env=old, capture_output=True, text=True)
     assert done.stderr.splitlines()[-1].startswith('ImportError: warpladle needs Python 3.10 or newer')
 
@@ -90,7 +113,8 @@ def test_an_old_python_is_a_sentence(environment, tmp_path, rich):
 
 @pytest.fixture
 def fresh(tmp_path):
-    """The repository as it is fetched, with no library; its tools/archive is a script that says what it does and puts the library there."""
+    """The repository as it is fetched, with no library; its tools/archive is a script that says what it does and puts
+    the library there."""
     for name in ('python', 'samples'):
         (tmp_path / name).symlink_to(ROOT / name)
     (tmp_path / 'warpladle').write_bytes((ROOT / 'warpladle').read_bytes())
@@ -106,14 +130,20 @@ def archive(folder, text):
 
 def shell(words, folder, environment, **more):
     env = {name: value for name, value in environment.items() if name not in ('WARPLADLE_LIBRARY', 'PYTHONPATH')}
-    return subprocess.run(words, cwd=folder, env={**env, 'PYTHON': sys.executable, **more}, capture_output=True, text=True)
+    return subprocess.run(
+        words, cwd=folder, env={**env, 'PYTHON': sys.executable, **more}, capture_output=True, text=True
+    )
 
 
 def test_the_first_command_makes_the_library(fresh, environment, library):
     archive(fresh, f'echo proving meter, 1 of 24 >&2\nmkdir -p target && cp {library} target/\n')
     # the package looks for the library beside itself and in its own repository's target/
     done = shell(['sh', '-c', './warpladle check samples/rich.eps; ls target'], fresh, environment)
-    assert done.stdout.endswith('libwarpladle.so\n') and 'warpladle: the library is not made yet' in done.stderr and 'proving meter, 1 of 24' in done.stderr
+    assert (
+        done.stdout.endswith('libwarpladle.so\n')
+        and 'warpladle: the library is not made yet' in done.stderr
+        and 'proving meter, 1 of 24' in done.stderr
+    )
     again = shell(['./warpladle', 'check', 'samples/rich.eps'], fresh, environment)
     assert again.stderr == '' or 'not made yet' not in again.stderr
 
@@ -121,7 +151,11 @@ def test_the_first_command_makes_the_library(fresh, environment, library):
 def test_a_library_that_cannot_be_made(fresh, environment):
     archive(fresh, 'echo "tools/archive: there is no rt" >&2\nexit 1\n')
     done = shell(['./warpladle', 'check', 'samples/rich.eps'], fresh, environment)
-    assert (done.returncode, done.stdout) == (2, '') and 'there is no rt' in done.stderr and done.stderr.endswith('warpladle: the library could not be made\n')
+    assert (
+        (done.returncode, done.stdout) == (2, '')
+        and 'there is no rt' in done.stderr
+        and done.stderr.endswith('warpladle: the library could not be made\n')
+    )
     for words in (['--help'], ['--version'], ['help', 'join'], []):
         assert 'not made yet' not in shell(['./warpladle', *words], fresh, environment).stderr
 
@@ -131,5 +165,10 @@ def test_a_link_to_the_command(tmp_path, environment, library):
     (tmp_path / 'bin' / 'warpladle').symlink_to(ROOT / 'warpladle')
     (tmp_path / 'bin' / 'again').symlink_to('warpladle')
     for name in ('warpladle', 'again'):
-        done = shell([tmp_path / 'bin' / name, 'check', ROOT / 'samples' / 'rich.eps'], tmp_path, environment, WARPLADLE_LIBRARY=str(library))
+        done = shell(
+            [tmp_path / 'bin' / name, 'check', ROOT / 'samples' / 'rich.eps'],
+            tmp_path,
+            environment,
+            WARPLADLE_LIBRARY=str(library),
+        )
         assert (done.returncode, done.stdout) == (0, f'{ROOT}/samples/rich.eps: 15 records\n'), done

@@ -34,7 +34,13 @@ def test_every_pair_of_the_vectors(given):
             answer = bytes_of(said(lambda first=first, second=second, i=identical: first.join(second, identical=i)))
             wanted = given.products(PASS)[case['output']] if expected[0] == 'written' else expected
             assert answer == wanted, (case['name'], identical)
-        seen.add((case['answer'][0], case['answer'][1] if case['answer'][0] == 'refused' else 0, case['plain'][1] if case['plain'][0] == 'refused' else 0))
+        seen.add(
+            (
+                case['answer'][0],
+                case['answer'][1] if case['answer'][0] == 'refused' else 0,
+                case['plain'][1] if case['plain'][0] == 'refused' else 0,
+            )
+        )
     assert {('refused', 26, 26), ('written', 0, 26), ('refused', 27, 27), ('written', 0, 27), ('written', 0, 0)} <= seen
 
 
@@ -43,7 +49,9 @@ def test_every_pass_of_the_vectors(given, tmp_path):
     for n, case in enumerate(given.lines('pass/pass.jsonl')):
         if 'granules' not in case or 'output' not in case:
             continue
-        granules, expected = [Product(given.products(PASS)[k]) for k in case['granules']], given.products(PASS)[case['output']]
+        granules, expected = [Product(given.products(PASS)[k]) for k in case['granules']], given.products(PASS)[
+            case['output']
+        ]
         folded = said(lambda granules=granules: bytes(reduce(Product.join, granules)))
         rounds = said(lambda granules=granules: bytes(join_all(granules)))
         for answer in (folded, rounds):
@@ -68,8 +76,11 @@ def test_26_says_which_lines_differ():
     first, second = Product(granule(0)), Product(granule(1, INSTRUMENT_ID='AMSA', SPACECRAFT_ID='M01'))
     refused = raised(first.join, second)
     assert refused.number == 26 and refused.inputs == ('the first', 'the second')
-    assert refused.words == ("expected two products of one kind, found INSTRUMENT_ID 'MHSx' of the first and 'AMSA' of the second, "
-                             "SPACECRAFT_ID 'M02' of the first and 'M01' of the second")
+    assert (
+        refused.words
+        == "expected two products of one kind, found INSTRUMENT_ID 'MHSx' of the first and 'AMSA' of the second, "
+        "SPACECRAFT_ID 'M02' of the first and 'M01' of the second"
+    )
 
 
 def test_26_says_which_record_differs_and_from_which_byte_on():
@@ -78,17 +89,28 @@ def test_26_says_which_record_differs_and_from_which_byte_on():
     changed = bytearray(other)
     changed[at + 20 + 7] ^= 1
     refused = raised(Product(one).join, Product(bytes(changed)))
-    assert refused.words == (f'expected two products of one kind, found GIADR 1 of the first, at {at}, and GIADR 1 of the second, at {at}, '
-                             'which differ from byte 27 of the record on (byte 7 of the payload)')
+    assert (
+        refused.words
+        == f'expected two products of one kind, found GIADR 1 of the first, at {at}, and GIADR 1 of the second, at'
+        f' {at}, '
+        'which differ from byte 27 of the record on (byte 7 of the payload)'
+    )
     changed = bytearray(other)
     changed[at + 3] = 9
-    assert raised(Product(one).join, Product(bytes(changed))).words.endswith('which differ from byte 3 of the record on (the version)')
+    assert raised(Product(one).join, Product(bytes(changed))).words.endswith(
+        'which differ from byte 3 of the record on (the version)'
+    )
 
 
 def test_26_says_which_record_has_none_beside_it():
     fixed = [record((2, 9, 0), b'S'), record((5, 9, 1), b'G'), record((5, 9, 2), b'H')]
-    one, other = (Product(product(records + [record((8, 9, 2), b'', (DAY, at), (DAY, at))])) for records, at in ((fixed, 0), (fixed[:2], 1000)))
-    assert raised(one.join, other).words.endswith('found GIADR 2 of the first, at 3349, with none beside it in the second')
+    one, other = (
+        Product(product(records + [record((8, 9, 2), b'', (DAY, at), (DAY, at))]))
+        for records, at in ((fixed, 0), (fixed[:2], 1000))
+    )
+    assert raised(one.join, other).words.endswith(
+        'found GIADR 2 of the first, at 3349, with none beside it in the second'
+    )
     assert raised(other.join, one).number == 26
 
 
@@ -96,15 +118,25 @@ def test_26_of_the_join_of_request_seven_says_that_it_was_asked_for():
     first, second = Product(granule(0)), Product(granule(1))
     assert first.join(second).verdict == 41  # with two pointers
     refused = raised(first.join, second, identical=True)
-    assert refused.number == 26 and 'SPHR 1 of the first, at 3307, and SPHR 1 of the second, at 3307, which differ from byte 11' in refused.words
+    assert (
+        refused.number == 26
+        and 'SPHR 1 of the first, at 3307, and SPHR 1 of the second, at 3307, which differ from byte 11'
+        in refused.words
+    )
     assert 'only the times of headers differ' in refused.words and '--identical was asked for' in refused.words
 
 
 def shifted(millis):
     """A granule that starts so many milliseconds after granule 0 stops."""
     at = 1000 * 3780 + millis
-    return Product(product([*[granule(0)[3307:3340]], *[granule(0)[3340:3390]], record((8, 9, 2), b'', (DAY, at), (DAY, at + 1000))],
-                           INSTRUMENT_ID='MHSx', PROCESSING_LEVEL='1B', SPACECRAFT_ID='M02'))
+    return Product(
+        product(
+            [*[granule(0)[3307:3340]], *[granule(0)[3340:3390]], record((8, 9, 2), b'', (DAY, at), (DAY, at + 1000))],
+            INSTRUMENT_ID='MHSx',
+            PROCESSING_LEVEL='1B',
+            SPACECRAFT_ID='M02',
+        )
+    )
 
 
 def test_27_says_by_how_much_at_which_times_of_which_files(tmp_path):
@@ -112,13 +144,20 @@ def test_27_says_by_how_much_at_which_times_of_which_files(tmp_path):
     assert first.join(shifted(0)).verdict and first.join(shifted(-1)).verdict
     refused = raised(first.join, shifted(-2))
     assert (refused.number, refused.inputs) == (27, ('the first', 'the second'))
-    assert refused.words == ('expected the second to start at 2016-06-05T01:03:00.000Z or later, or 1 ms before, where the first stops, '
-                             'found 2016-06-05T01:02:59.998Z, 2 ms before')
+    assert (
+        refused.words
+        == 'expected the second to start at 2016-06-05T01:03:00.000Z or later, or 1 ms before, where the first stops, '
+        'found 2016-06-05T01:02:59.998Z, 2 ms before'
+    )
     names = [tmp_path / f'{k}.eps' for k in range(4)]
     for name, k in zip(names, (0, 1, 3, 2)):
         name.write_bytes(granule(k))
     refused = raised(join_all, names)
-    assert refused.inputs == (str(names[2]), str(names[3])) and f'where {names[2]} stops' in refused.words and '360000 ms before' in refused.words
+    assert (
+        refused.inputs == (str(names[2]), str(names[3]))
+        and f'where {names[2]} stops' in refused.words
+        and '360000 ms before' in refused.words
+    )
 
 
 def test_27_across_a_span_names_the_files_themselves(tmp_path):
@@ -131,8 +170,10 @@ def test_27_across_a_span_names_the_files_themselves(tmp_path):
 
 def test_a_leap_second_counts_for_27():
     """The last millisecond of 2016's leap second and the first of 2017 are a millisecond apart."""
+
     def at(start, stop):
         return Product(product([record((8, 9, 2), b'', start, stop)]))
+
     assert at((6209, 86_400_000), (6209, 86_400_999)).join(at((6210, 0), (6210, 5))).verdict == 4
     assert at((6209, 86_400_000), (6210, 1)).join(at((6210, 0), (6210, 5))).verdict == 4
     assert raised(at((6209, 86_400_000), (6210, 1)).join, at((6209, 86_400_999), (6210, 5))).number == 27
@@ -143,7 +184,11 @@ def test_the_refused_one_of_many_is_named(tmp_path):
     for k, name in enumerate(names):
         name.write_bytes(granule(k)[:-1] if k == 3 else granule(k))
     refused = raised(join_all, names)
-    assert refused.number == 17 and refused.inputs == (str(names[3]),) and refused.words.startswith(f'{names[3]}: expected ')
+    assert (
+        refused.number == 17
+        and refused.inputs == (str(names[3]),)
+        and refused.words.startswith(f'{names[3]}: expected ')
+    )
 
 
 def test_the_end_of_a_join_is_the_first_s():
@@ -183,7 +228,14 @@ def five_thousand(tmp_path_factory):
 
 
 def run(environment, *words, **options):
-    return subprocess.run([sys.executable, '-B', '-m', 'warpladle', *map(str, words)], env=environment, capture_output=True, text=True, preexec_fn=limited, **options)
+    return subprocess.run(
+        [sys.executable, '-B', '-m', 'warpladle', *map(str, words)],
+        env=environment,
+        capture_output=True,
+        text=True,
+        preexec_fn=limited,
+        **options,
+    )
 
 
 def test_5000_files_are_joined_with_1024_descriptors(five_thousand, environment, tmp_path):
@@ -192,7 +244,16 @@ def test_5000_files_are_joined_with_1024_descriptors(five_thousand, environment,
     joined = Product(tmp_path / 'pass.eps')
     assert joined.field('TOTAL_MDR') == 5000 and len(joined) == 1 + 1 + 2 + 1 + 5000
     assert os.listdir(tmp_path) == ['pass.eps']
-    done = run(environment, 'join', '--files-from', '-', '-0', '-o', tmp_path / 'three.eps', input='\0'.join(str(five_thousand / f'{k:04}.eps') for k in range(3)))
+    done = run(
+        environment,
+        'join',
+        '--files-from',
+        '-',
+        '-0',
+        '-o',
+        tmp_path / 'three.eps',
+        input='\0'.join(str(five_thousand / f'{k:04}.eps') for k in range(3)),
+    )
     assert done.returncode == 0 and Product(tmp_path / 'three.eps').field('TOTAL_MDR') == 3
 
 
@@ -202,5 +263,3 @@ def test_5000_files_are_counted_with_1024_descriptors(five_thousand, environment
     assert done.stdout.splitlines()[0] == 'products 5000, accepted 5000, refused 0'
     done = run(environment, 'check', '-q', '-r', five_thousand)
     assert (done.returncode, done.stdout, done.stderr) == (0, '', '')
-
-

@@ -59,7 +59,7 @@ def test_the_watch_on_every_line(given):
     for case in given.lines('requests/one.jsonl'):
         data, at, watch = given.product(case), 0, Watch()
         for length, (word, a, b) in zip(case['lengths'], case['answers'], strict=True):
-            answer = said(watch.feed, data[at:at + length])
+            answer = said(watch.feed, data[at : at + length])
             assert answer == (['refused', a, b] if word == 'refused' else Waiting(a, b)), case['name']
             at += length
         assert watch.fed == len(data)
@@ -70,10 +70,14 @@ def test_leap_seconds_in_products(given):
     assert len(cases) > 50
     for case in cases:
         word, *numbers = case['finished']
-        assert said(lambda: Product(given.product(case)).verdict) == (numbers[0] if word == 'accepted' else case['finished'])
+        assert said(lambda: Product(given.product(case)).verdict) == (
+            numbers[0] if word == 'accepted' else case['finished']
+        )
 
 
-@pytest.mark.parametrize('name, ask', [('six', lambda p: p.rows), ('nine', Product.level0), ('nine_dummy', Product.level0)])
+@pytest.mark.parametrize(
+    'name, ask', [('six', lambda p: p.rows), ('nine', Product.level0), ('nine_dummy', Product.level0)]
+)
 def test_rows(given, name, ask):
     kinds = set()
     for case in given.lines(f'requests/{name}.jsonl'):
@@ -91,6 +95,7 @@ def test_rows(given, name, ask):
 def test_rows_too_few_for_the_records_are_refused_with_18_and_kept(given):
     from warpladle.library import ask
     from warpladle.product import ROW
+
     data = given.product(given.lines('requests/six.jsonl')[0])
     for name in ('rows', 'level0'):
         lent = numpy.full(6, 7, ROW)

@@ -45,7 +45,8 @@ def test_2_gb(sparse, tmp_path):
 
 def test_2_gb_costs_no_memory(sparse, environment):
     """A process that may have 1 GiB of memory of its own checks it, and has touched a few megabytes."""
-    code = textwrap.dedent('''
+    code = textwrap.dedent(
+        '''
         import resource, sys
         import warpladle
         warpladle.Product(b'').size
@@ -53,11 +54,14 @@ def test_2_gb_costs_no_memory(sparse, environment):
         product = warpladle.Product(sys.argv[1])
         assert product.verdict == 4 and len(product.fields) == 72
         print(resource.getrusage(resource.RUSAGE_SELF).ru_maxrss - before)
-    ''')
+    '''
+    )
 
     def limit():
         resource.setrlimit(resource.RLIMIT_DATA, (2**30, 2**30))
 
-    done = subprocess.run([sys.executable, '-c', code, sparse], env=environment, capture_output=True, text=True, preexec_fn=limit)
+    done = subprocess.run(
+        [sys.executable, '-c', code, sparse], env=environment, capture_output=True, text=True, preexec_fn=limit
+    )
     assert done.returncode == 0, done.stderr
     assert int(done.stdout) < 4096  # kilobytes

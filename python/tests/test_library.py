@@ -10,17 +10,36 @@ from warpladle import library
 from warpladle.library import FUNCTIONS, Watched, answer
 
 HEADER = (ROOT / 'include' / 'warpladle.h').read_text()
-PLAIN = {library.U8: 'uint8_t', library.U16: 'uint16_t', library.U32: 'uint32_t', library.SIZE: 'size_t', library.I8: 'int8_t', library.I64: 'int64_t'}
-LENT = {library.BYTES: ['const uint8_t *'], library.ROOM: ['uint8_t *'], library.ROWS: ['uint32_t (*)[7]'], library.BLOCKS: ['uint32_t (*)[4]'],
-        library.VALUES: ['float (*)[2]'], library.LENGTHS: ['const uint32_t *'], library.SAME_STATE: ['const uint64_t [38]'],
-        library.STATE: ['wl_watch *', 'uint64_t [38]', 'double [2]', 'double *']}
+PLAIN = {
+    library.U8: 'uint8_t',
+    library.U16: 'uint16_t',
+    library.U32: 'uint32_t',
+    library.SIZE: 'size_t',
+    library.I8: 'int8_t',
+    library.I64: 'int64_t',
+}
+LENT = {
+    library.BYTES: ['const uint8_t *'],
+    library.ROOM: ['uint8_t *'],
+    library.ROWS: ['uint32_t (*)[7]'],
+    library.BLOCKS: ['uint32_t (*)[4]'],
+    library.VALUES: ['float (*)[2]'],
+    library.LENGTHS: ['const uint32_t *'],
+    library.SAME_STATE: ['const uint64_t [38]'],
+    library.STATE: ['wl_watch *', 'uint64_t [38]', 'double [2]', 'double *'],
+}
 
 
 def declared():
     """The types of each function of the header, its parameters' names taken out."""
     code = re.sub(r'/\*.*?\*/', '', HEADER, flags=re.S)
     found = re.findall(r'void wl_(\w+)\((.*?)\);', code, re.S)
-    return {name: [' '.join(re.sub(r'\b\w+(?=\)?(\[\d+\])?$)', '', one.strip(), count=1).split()) for one in given.split(',')] for name, given in found}
+    return {
+        name: [
+            ' '.join(re.sub(r'\b\w+(?=\)?(\[\d+\])?$)', '', one.strip(), count=1).split()) for one in given.split(',')
+        ]
+        for name, given in found
+    }
 
 
 def expected(kinds, size):
@@ -49,7 +68,10 @@ def test_each_function_is_declared_so():
 
 def test_the_state_of_a_watch_is_as_long_as_in_c(tmp_path):
     source = tmp_path / 'size.c'
-    source.write_text('#include <stdio.h>\n#include "warpladle.h"\nint main(void) { printf("%zu %zu\\n", sizeof(wl_watch), offsetof(wl_watch, number)); }\n')
+    source.write_text(
+        '#include <stdio.h>\n#include "warpladle.h"\nint main(void) { printf("%zu %zu\\n", sizeof(wl_watch),'
+        ' offsetof(wl_watch, number)); }\n'
+    )
     subprocess.run(['cc', f'-I{ROOT}/include', source, '-o', tmp_path / 'size'], check=True)
     found = subprocess.run([tmp_path / 'size'], capture_output=True, text=True, check=True).stdout.split()
     assert found == [str(ctypes.sizeof(Watched)), str(Watched.number.offset)]

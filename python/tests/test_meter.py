@@ -5,7 +5,21 @@ from datetime import date, datetime, timedelta, timezone
 import pytest
 from conftest import said
 
-from warpladle import Moment, Scaled, Time, date_of, day_number, is_date, read_scaled, read_time, reading, round_scaled, text_time, time_order, time_text
+from warpladle import (
+    Moment,
+    Scaled,
+    Time,
+    date_of,
+    day_number,
+    is_date,
+    read_scaled,
+    read_time,
+    reading,
+    round_scaled,
+    text_time,
+    time_order,
+    time_text,
+)
 from warpladle import write_scaled, write_time
 
 
@@ -39,7 +53,9 @@ def test_times(given):
         elif 'text' in case:
             expected = leap(case, 'cds')
             answer = said(text_time, bytes.fromhex(case['text']))
-            assert answer == (expected if expected[0] == 'refused' else as_time(expected[1]) if expected[0] == 'time' else None)
+            assert answer == (
+                expected if expected[0] == 'refused' else as_time(expected[1]) if expected[0] == 'time' else None
+            )
             texts += 1
         elif 'order' in case:
             expected = leap(case, 'answer')
@@ -50,12 +66,25 @@ def test_times(given):
 
 
 def test_iso_8601():
-    assert Time.of('2016-06-05T00:00:08Z') == Time.of('2016-06-05 00:00:08') == Time.of('20160605T000008Z') == Time(6000, 8000)
+    assert (
+        Time.of('2016-06-05T00:00:08Z')
+        == Time.of('2016-06-05 00:00:08')
+        == Time.of('20160605T000008Z')
+        == Time(6000, 8000)
+    )
     assert Time.of('2016-06-05') == Time(6000, 0) and Time.of('2016-06-05T01:00') == Time(6000, 3600000)
     assert Time.of('2016-06-05T00:00:08.250Z').isoformat() == '2016-06-05T00:00:08.250Z'
     assert Time.of('2016-12-31T23:59:60.999Z') == Time(6209, 86400999)
     assert Time(6209, 86400999).isoformat() == '2016-12-31T23:59:60.999Z'
-    for text in ('yesterday', '2016-06', '06:00', '2016-06-05T00:00:08.0001Z', '2016-06-05T00:00:08+2', '2016-13-05T00:00+01:00', ''):
+    for text in (
+        'yesterday',
+        '2016-06',
+        '06:00',
+        '2016-06-05T00:00:08.0001Z',
+        '2016-06-05T00:00:08+2',
+        '2016-13-05T00:00+01:00',
+        '',
+    ):
         with pytest.raises(ValueError):
             Time.of(text)
     for text in ('2015-02-29', '2015-12-31T23:59:60Z', '1999-12-31', '2200-01-01'):
@@ -108,10 +137,14 @@ def scaled_answer(case):
     """What the module says, in the vectors' own form."""
     try:
         if case['op'] == 'read':
-            found = said(read_scaled, bytes.fromhex(case['bytes']), 0, case['width'], case['signed'])
-            return found if isinstance(found, list) else ['undefined'] if found is None else ['scaled', str(found.integer), found.scale]
+            found = said(read_scaled, bytes.fromhex(case['bytes']), 0, case['width'], is_signed=case['signed'])
+            return (
+                found
+                if isinstance(found, list)
+                else ['undefined'] if found is None else ['scaled', str(found.integer), found.scale]
+            )
         if case['op'] == 'write':
-            found = said(write_scaled, scaled(case), case['width'], case['signed'])
+            found = said(write_scaled, scaled(case), case['width'], is_signed=case['signed'])
             return found if isinstance(found, list) else ['written', found.hex()]
         if case['op'] == 'round':
             found = said(round_scaled, scaled(case), case['d'])
@@ -121,5 +154,9 @@ def scaled_answer(case):
             return found
         return [found.kind] if found.value is None else [found.kind, {'f64': struct.pack('>d', found.value).hex()}]
     except OverflowError:  # an integer past 64 bits, which C cannot hand in
-        assert not -2**63 <= int(case['i']) < 2**63 or not -128 <= case['s'] < 128 or not -128 <= case.get('d', 0) < 128
+        assert (
+            not -(2**63) <= int(case['i']) < 2**63
+            or not -128 <= case['s'] < 128
+            or not -128 <= case.get('d', 0) < 128
+        )
         return ['refused', 21, 0]

@@ -1,4 +1,5 @@
-"""The module as an analyst uses it: times, payload, indexing, file objects, pickles, windows, arithmetic of times, names, notebooks."""
+"""The module as an analyst uses it: times, payload, indexing, file objects, pickles, windows, arithmetic of times,
+names, notebooks."""
 import io
 import os
 import pickle
@@ -27,7 +28,9 @@ def test_times_are_those_of_the_headers(given):
                     assert numpy.isnat(found)
                     seen['undefined'] += 1
                 elif time.milli >= 86_400_000:
-                    assert found == numpy.datetime64(Time(time.day + 1, time.milli - 86_400_000).datetime().replace(tzinfo=None), 'ms')
+                    assert found == numpy.datetime64(
+                        Time(time.day + 1, time.milli - 86_400_000).datetime().replace(tzinfo=None), 'ms'
+                    )
                     seen['leap'] += 1
                 else:
                     assert found == numpy.datetime64(time.datetime().replace(tzinfo=None), 'ms')
@@ -37,17 +40,31 @@ def test_times_are_those_of_the_headers(given):
 
 def test_times_of_100_000_records(large):
     one = Product(large)
-    assert one.times.dtype.names == ('start', 'stop') and len(one.times) == 100_002 and one.times['start'].dtype == 'M8[ms]'
+    assert (
+        one.times.dtype.names == ('start', 'stop')
+        and len(one.times) == 100_002
+        and one.times['start'].dtype == 'M8[ms]'
+    )
     assert (one.times['start'][1:] == numpy.datetime64('2016-06-05T00:00:00.000') + 400 * numpy.arange(100_001)).all()
     assert not one.times.flags.writeable
     rows = one.rows_with_times()
-    assert rows.dtype.names == ('start', 'size', 'class', 'group', 'subclass', 'version', 'ordinal', 'start_time', 'stop_time')
+    assert rows.dtype.names == (
+        'start',
+        'size',
+        'class',
+        'group',
+        'subclass',
+        'version',
+        'ordinal',
+        'start_time',
+        'stop_time',
+    )
     assert (rows['start_time'][1:] == one.times['start'][1:]).all() and (rows['size'] == one.rows['size']).all()
 
 
 def test_payload_and_mdrs(rich):
     one, data = Product(rich), rich.read_bytes()
-    assert bytes(one.payload(1)) == data[3307 + 20:3307 + 61] and bytes(one.payload(-1)) == bytes(300)
+    assert bytes(one.payload(1)) == data[3307 + 20 : 3307 + 61] and bytes(one.payload(-1)) == bytes(300)
     assert isinstance(one.payload(1), memoryview)
     assert [mdr.start for mdr in one.mdrs()] == [3675, 3895, 4015, 4036]
     with pytest.raises(IndexError):
@@ -58,7 +75,7 @@ def test_a_view_of_mdrs_of_one_size():
     data = granule(0)
     one = Product(data)
     table = one.mdr_bytes()
-    assert table.shape == (18, 40) and bytes(table[3]) == data[one.row(6).start:one.row(6).start + 40]
+    assert table.shape == (18, 40) and bytes(table[3]) == data[one.row(6).start : one.row(6).start + 40]
     assert numpy.shares_memory(table, numpy.frombuffer(data, 'u1'))
     assert one.mdr_bytes(group=Group.MHS, subclass=2).shape == (18, 40) and one.mdr_bytes(subclass=7).shape == (0, 0)
     assert table[:, 20].tolist() == [0] * 18
@@ -78,7 +95,14 @@ def test_a_view_of_mdrs_of_many_sizes(rich):
 def test_length_iteration_and_indexing(rich):
     one = Product(rich)
     records = list(one.records())
-    assert len(one) == 15 and list(one) == records and one[3] == records[3] and one[-1] == records[-1] and one[2:5] == records[2:5] and one[::-1] == records[::-1]
+    assert (
+        len(one) == 15
+        and list(one) == records
+        and one[3] == records[3]
+        and one[-1] == records[-1]
+        and one[2:5] == records[2:5]
+        and one[::-1] == records[::-1]
+    )
     with pytest.raises(IndexError):
         one[15]
     assert one and Product(b'')
@@ -114,7 +138,7 @@ def test_file_objects_and_whatever_has_read(rich):
             self.rest = data
 
         def read(self, size):
-            part, self.rest = self.rest[:min(size, 1000)], self.rest[min(size, 1000):]
+            part, self.rest = self.rest[: min(size, 1000)], self.rest[min(size, 1000) :]
             return part
 
     with open(rich, 'rb') as file, open(rich, 'rb', buffering=0) as raw:
@@ -136,23 +160,50 @@ def test_ends_of_a_window(rich):
     one = Product(rich)
     expected = bytes(one.cut('2016-06-05T00:00:08Z', '2016-06-05T00:00:20Z'))
     east = timezone(timedelta(hours=2))
-    for first, last in ((numpy.datetime64('2016-06-05T00:00:08'), numpy.datetime64('2016-06-05T00:00:20.000', 'ns')),
-                        (datetime(2016, 6, 5, 2, 0, 8, tzinfo=east), datetime(2016, 6, 5, 0, 0, 20)), (Time(6000, 8000), Moment(2016, 6, 5, 0, 0, 20)),
-                        (one.times['start'][12], one.times['start'][13])):
+    for first, last in (
+        (numpy.datetime64('2016-06-05T00:00:08'), numpy.datetime64('2016-06-05T00:00:20.000', 'ns')),
+        (datetime(2016, 6, 5, 2, 0, 8, tzinfo=east), datetime(2016, 6, 5, 0, 0, 20)),
+        (Time(6000, 8000), Moment(2016, 6, 5, 0, 0, 20)),
+        (one.times['start'][12], one.times['start'][13]),
+    ):
         assert bytes(one.cut(first, last)) == expected
-    assert bytes(one.cut(date(2016, 6, 5), date(2016, 6, 6))) == bytes(one.cut('2016-06-05', '2016-06-06')) == bytes(one.cut(numpy.datetime64('2016-06-05'), '2016-06-06'))
-    for wrong, error in ((numpy.datetime64('NaT'), ValueError), (6000, TypeError), (3.5, TypeError), (numpy.datetime64('2016-06-05T00:00:08.0001', 'us'), ValueError)):
+    assert (
+        bytes(one.cut(date(2016, 6, 5), date(2016, 6, 6)))
+        == bytes(one.cut('2016-06-05', '2016-06-06'))
+        == bytes(one.cut(numpy.datetime64('2016-06-05'), '2016-06-06'))
+    )
+    for wrong, error in (
+        (numpy.datetime64('NaT'), ValueError),
+        (6000, TypeError),
+        (3.5, TypeError),
+        (numpy.datetime64('2016-06-05T00:00:08.0001', 'us'), ValueError),
+    ):
         with pytest.raises(error):
             one.cut(wrong, '2016-06-06')
 
 
 def test_arithmetic_of_times():
     second, leap = timedelta(seconds=1), Time(6209, 86_399_500)
-    assert Time(6000, 8000) - Time(6000, 3000) == timedelta(seconds=5) and Time(6000, 0) - Time(6000, 1) == timedelta(milliseconds=-1)
-    assert Time(6001, 0) - Time(6000, 0) == timedelta(days=1) and Time(6210, 0) - Time(6209, 0) == timedelta(days=1, seconds=1)
-    assert leap + second == Time(6209, 86_400_500) and leap + 2 * second == Time(6210, 500) and Time(6210, 500) - 2 * second == leap
+    assert Time(6000, 8000) - Time(6000, 3000) == timedelta(seconds=5) and Time(6000, 0) - Time(6000, 1) == timedelta(
+        milliseconds=-1
+    )
+    assert Time(6001, 0) - Time(6000, 0) == timedelta(days=1) and Time(6210, 0) - Time(6209, 0) == timedelta(
+        days=1, seconds=1
+    )
+    assert (
+        leap + second == Time(6209, 86_400_500)
+        and leap + 2 * second == Time(6210, 500)
+        and Time(6210, 500) - 2 * second == leap
+    )
     assert second + Time(6000, 0) == Time(6000, 1000) and Time(6000, 0) - second == Time(5999, 86_399_000)
-    for wrong in (lambda: Time(1, 2) + Time(3, 4), lambda: Time(1, 2) + (3, 4), lambda: Time(1, 2) * 2, lambda: 2 * Time(1, 2), lambda: Time(1, 2) + 5, lambda: Time(1, 2) - 5):
+    for wrong in (
+        lambda: Time(1, 2) + Time(3, 4),
+        lambda: Time(1, 2) + (3, 4),
+        lambda: Time(1, 2) * 2,
+        lambda: 2 * Time(1, 2),
+        lambda: Time(1, 2) + 5,
+        lambda: Time(1, 2) - 5,
+    ):
         with pytest.raises(TypeError):
             wrong()
     with pytest.raises(ValueError):
@@ -172,9 +223,16 @@ def test_differences_are_the_library_s(given):
         if report.add(data) is not None:
             continue
         mdrs = list(Product(data).mdrs())
-        pairs = [(one.stop_time, other.start_time) for one, other in zip(mdrs, mdrs[1:]) if one.stop_time is not None and other.start_time is not None]
+        pairs = [
+            (one.stop_time, other.start_time)
+            for one, other in zip(mdrs, mdrs[1:])
+            if one.stop_time is not None and other.start_time is not None
+        ]
         lengths = [(start - stop) // timedelta(milliseconds=1) for stop, start in pairs]
-        assert sum(max(0, length) for length in lengths) == report.as_dict()['gap_ms'] and sum(max(0, -length) for length in lengths) == report.as_dict()['overlap_ms']
+        assert (
+            sum(max(0, length) for length in lengths) == report.as_dict()['gap_ms']
+            and sum(max(0, -length) for length in lengths) == report.as_dict()['overlap_ms']
+        )
         seen += bool(lengths)
     assert seen > 50
 
@@ -183,6 +241,7 @@ def test_names_for_numbers():
     import re
 
     from conftest import ROOT
+
     header = (ROOT / 'include' / 'warpladle.h').read_text()
     for enum, first in ((Refusal, 'WL_FIRST_HEADER'), (RecordClass, 'WL_MPHR'), (Group, 'WL_GENERIC')):
         block = next(text for text in re.findall(r'enum[^{]*\{(.*?)\}', header, re.S) if first in text)
@@ -194,8 +253,15 @@ def test_names_for_numbers():
 
 def test_fields_of_one_kind(rich):
     one = Product(rich)
-    assert one.number('ORBIT_START') == 50123 and one.number('LOCATION_TOLERANCE_RADIAL') is None and one.text('INSTRUMENT_MODEL') == '2'
-    assert one.time('SENSING_END') == datetime(2016, 6, 5, 0, 0, 25, tzinfo=timezone.utc) and one.time('LEAP_SECOND_UTC') is None
+    assert (
+        one.number('ORBIT_START') == 50123
+        and one.number('LOCATION_TOLERANCE_RADIAL') is None
+        and one.text('INSTRUMENT_MODEL') == '2'
+    )
+    assert (
+        one.time('SENSING_END') == datetime(2016, 6, 5, 0, 0, 25, tzinfo=timezone.utc)
+        and one.time('LEAP_SECOND_UTC') is None
+    )
     for ask, name in ((one.number, 'INSTRUMENT_ID'), (one.text, 'ORBIT_START'), (one.time, 'ORBIT_START')):
         with pytest.raises(TypeError):
             ask(name)
@@ -204,11 +270,17 @@ def test_fields_of_one_kind(rich):
 def test_notebooks(rich):
     html = Product(rich)._repr_html_()
     assert html.startswith('<table>') and '47.623 -122.401' in html and 'rich.eps' in html
-    assert 'incomplete' in Product(rich.read_bytes()[:4000])._repr_html_() and 'refused' in Product(b'<script>' * 9)._repr_html_()
+    assert (
+        'incomplete' in Product(rich.read_bytes()[:4000])._repr_html_()
+        and 'refused' in Product(b'<script>' * 9)._repr_html_()
+    )
     assert '<script>' not in Product(b'<script>' * 9)._repr_html_()
     report = Report()
     report.add(rich)
-    assert '681' in report._repr_html_() and repr(report) == '<Report of 1 products, 1 accepted, 15 records, 21000 ms of gaps>'
+    assert (
+        '681' in report._repr_html_()
+        and repr(report) == '<Report of 1 products, 1 accepted, 15 records, 21000 ms of gaps>'
+    )
 
 
 def test_a_picture_of_a_product(rich, tmp_path):

@@ -9,8 +9,10 @@ import pytest
 from making import DAY, granule, product, record
 
 from warpladle import Overview, Product, Report, Time
+from warpladle.charts import picture_of_overview, picture_of_report
+from warpladle.drawing import GAP, MARK, clock_ticks, merged, widened
 from warpladle.overview import count_product
-from warpladle.picture import GAP, MARK, clock_ticks, merged, picture_of_overview, picture_of_product, picture_of_report, runs, see, spans, widened
+from warpladle.picture import picture_of_product, runs, see, spans
 from warpladle.times import day_length
 
 pytest.importorskip('matplotlib')
@@ -22,24 +24,34 @@ def texts(svg):
 
 
 def colour_of(name):
-    return tuple(int(name[k:k + 2], 16) for k in (1, 3, 5))
+    return tuple(int(name[k : k + 2], 16) for k in (1, 3, 5))
 
 
 def columns_of(png, colour, rows=slice(None)):
     """How many columns of pixels have a colour somewhere."""
     from PIL import Image
+
     pixels = numpy.asarray(Image.open(io.BytesIO(png)).convert('RGB'))[rows]
     return int((pixels == colour_of(colour)).all(axis=2).any(axis=0).sum())
 
 
 def test_the_records_along_the_bytes(samples):
     found = runs(Product(samples / 'rich.eps').rows)
-    assert found == [(1, 0, 3307, 1), (2, 3307, 61, 1), (3, 3368, 135, 5), (4, 3503, 32, 1), (5, 3535, 60, 1), (6, 3595, 27, 1), (7, 3622, 53, 1),
-                     (8, 3675, 681, 4)]
+    assert found == [
+        (1, 0, 3307, 1),
+        (2, 3307, 61, 1),
+        (3, 3368, 135, 5),
+        (4, 3503, 32, 1),
+        (5, 3535, 60, 1),
+        (6, 3595, 27, 1),
+        (7, 3622, 53, 1),
+        (8, 3675, 681, 4),
+    ]
 
 
 def test_gaps_are_the_library_s(given):
-    """The milliseconds of gap and overlap that are drawn are those of the report, in every accepted product of the report's vectors."""
+    """The milliseconds of gap and overlap that are drawn are those of the report, in every accepted product of the
+    report's vectors."""
     seen = [0, 0, 0]
     for k in sorted({k for case in given.lines('requests/twelve.jsonl') for k in case.get('products', [])}):
         one, report = Product(given.products()[k]), Report()
@@ -66,29 +78,56 @@ def test_bars_too_near_to_tell_apart_are_drawn_as_one():
 
 def test_clock_times():
     assert clock_ticks(3_600_000, 3_780_000) == [1000 * (3600 + 30 * k) for k in range(7)]
-    assert clock_ticks(0, 79_200_000)[:3] == [0, 10_800_000, 21_600_000] and all(len(clock_ticks(17, 17 + 3.7 ** k)) <= 11 for k in range(2, 20))
+    assert clock_ticks(0, 79_200_000)[:3] == [0, 10_800_000, 21_600_000] and all(
+        len(clock_ticks(17, 17 + 3.7**k)) <= 11 for k in range(2, 20)
+    )
 
 
 def test_a_product_s_picture(samples):
     one = Product(samples / 'rich.eps')
     svg = picture_of_product(one)
     words = texts(svg)
-    for text in ('15 records, 4,356 bytes', 'MDR 3', 'dummy 1', 'gap 3, 21,000 ms', 'overlap 0, 0 ms', 'UTC, 2016-06-05', '00:00:10', 'IPR 5', 'from 3,675',
-                 'MHSx_xxx_1B_M02_20160605000000Z_20160605000025Z_N_O_20160605003000Z', '3,000'):
+    for text in (
+        '15 records, 4,356 bytes',
+        'MDR 3',
+        'dummy 1',
+        'gap 3, 21,000 ms',
+        'overlap 0, 0 ms',
+        'UTC, 2016-06-05',
+        '00:00:10',
+        'IPR 5',
+        'from 3,675',
+        'MHSx_xxx_1B_M02_20160605000000Z_20160605000025Z_N_O_20160605003000Z',
+        '3,000',
+    ):
         assert any(text in word for word in words), (text, words)
     assert picture_of_product(one) == svg and b'<title>MHSx_xxx' in svg
 
 
-@pytest.mark.parametrize('suffix, first', [('svg', b'<?xml'), ('png', b'\x89PNG'), ('pdf', b'%PDF'), ('jpg', b'\xff\xd8')])
+@pytest.mark.parametrize(
+    'suffix, first', [('svg', b'<?xml'), ('png', b'\x89PNG'), ('pdf', b'%PDF'), ('jpg', b'\xff\xd8')]
+)
 def test_kinds_of_pictures(samples, suffix, first, run, rich, tmp_path):
     assert picture_of_product(Product(rich), suffix).startswith(first)
-    assert run('picture', rich, f'p.{suffix}') == (0, '', '') and (tmp_path / f'p.{suffix}').read_bytes().startswith(first)
-    assert run('report', rich, '--picture', f'r.{suffix}').status == 0 and (tmp_path / f'r.{suffix}').read_bytes().startswith(first)
+    assert run('picture', rich, f'p.{suffix}') == (0, '', '') and (tmp_path / f'p.{suffix}').read_bytes().startswith(
+        first
+    )
+    assert run('report', rich, '--picture', f'r.{suffix}').status == 0 and (
+        tmp_path / f'r.{suffix}'
+    ).read_bytes().startswith(first)
 
 
 def test_a_gap_is_always_seen():
     """30,000 MDRs over 22 hours, with 8 seconds missing in the middle: less than a pixel."""
-    mdrs = [record((8, 9, 2), b'', (DAY, 2640 * k + (8000 if k >= 15_000 else 0)), (DAY, 2640 * (k + 1) + (8000 if k >= 15_000 else 0))) for k in range(30_000)]
+    mdrs = [
+        record(
+            (8, 9, 2),
+            b'',
+            (DAY, 2640 * k + (8000 if k >= 15_000 else 0)),
+            (DAY, 2640 * (k + 1) + (8000 if k >= 15_000 else 0)),
+        )
+        for k in range(30_000)
+    ]
     one = Product(product(mdrs))
     assert Report().add(one) is None
     assert columns_of(picture_of_product(one, 'png'), GAP) >= 2
@@ -110,8 +149,12 @@ def test_refused_and_incomplete_products_are_drawn_up_to_the_place(rich, run, tm
     data = rich.read_bytes()
     bad = bytearray(data)
     bad[int(Product(rich).rows['start'][12])] = 9
-    for name, made, status, words in (('part', data[:4000], 3, 'incomplete 17 at 4000: expected 4356 bytes'), ('bad', bytes(bad), 1, 'refused 7 at 3895: '),
-                                      ('html', b'<!DOCTYPE html>' * 400, 1, 'refused 1 at 0: '), ('empty', b'', 3, 'incomplete 17 at 0: ')):
+    for name, made, status, words in (
+        ('part', data[:4000], 3, 'incomplete 17 at 4000: expected 4356 bytes'),
+        ('bad', bytes(bad), 1, 'refused 7 at 3895: '),
+        ('html', b'<!DOCTYPE html>' * 400, 1, 'refused 1 at 0: '),
+        ('empty', b'', 3, 'incomplete 17 at 0: '),
+    ):
         (tmp_path / name).write_bytes(made)
         assert run('picture', name, f'{name}.svg').status == status
         assert any(words in word for word in texts((tmp_path / f'{name}.svg').read_bytes())), name
@@ -142,8 +185,13 @@ product = warpladle.Product({str(samples / 'rich.eps')!r})
 product.picture(); product.picture('png')
 assert (dict(matplotlib.rcParams), matplotlib.get_backend(), pyplot.get_fignums()) == before
 '''
-    subprocess.run([sys.executable, '-W', 'error::DeprecationWarning:warpladle', '-c', code], env=environment, check=True)
-    code = f"import sys, warpladle; warpladle.Product({str(samples / 'rich.eps')!r}).picture(); assert 'matplotlib.pyplot' not in sys.modules"
+    subprocess.run(
+        [sys.executable, '-W', 'error::DeprecationWarning:warpladle', '-c', code], env=environment, check=True
+    )
+    code = (
+        f"import sys, warpladle; warpladle.Product({str(samples / 'rich.eps')!r}).picture(); assert 'matplotlib.pyplot'"
+        " not in sys.modules"
+    )
     subprocess.run([sys.executable, '-c', code], env=environment, check=True)
 
 
@@ -152,18 +200,44 @@ def test_a_report_s_picture(samples):
     report.add(samples / 'rich.eps')
     report.add(b'')
     words = texts(picture_of_report(report))
-    for text in ('2 products, 1 accepted; gaps 21,000 ms', 'accepted', 'refused 17', 'finished short', 'MDR', 'records', 'bytes', '681'):
+    for text in (
+        '2 products, 1 accepted; gaps 21,000 ms',
+        'accepted',
+        'refused 17',
+        'finished short',
+        'MDR',
+        'records',
+        'bytes',
+        '681',
+    ):
         assert any(text in word for word in words), text
 
 
 def test_an_overview_s_picture():
     """Days, gaps between products, names and reasons."""
-    made = {'g0.eps': granule(0), 'g1.eps': granule(1), 'g9.eps': granule(9), 'next.eps': granule(0, SENSING_START='20160606010000Z', SENSING_END='20160606010300Z'),
-            'part.eps': granule(3)[:3400], 'odd.eps': b'<!DOCTYPE html>' * 300}
+    made = {
+        'g0.eps': granule(0),
+        'g1.eps': granule(1),
+        'g9.eps': granule(9),
+        'next.eps': granule(0, SENSING_START='20160606010000Z', SENSING_END='20160606010300Z'),
+        'part.eps': granule(3)[:3400],
+        'odd.eps': b'<!DOCTYPE html>' * 300,
+    }
     overview = Overview(count_product(name, Product(data)) for name, data in made.items())
     words = texts(picture_of_overview(overview))
-    for text in ('2016-06-05', '2016-06-06', 'unknown', 'M02 MHSx xxx 1B', 'refused: odd.eps: 1 at 0: expected a first header', 'incomplete: part.eps: 17 at 3400: expected',
-                 '6 products, 4 accepted', 'whole 4', 'refused 1', 'incomplete 1', '72'):
+    for text in (
+        '2016-06-05',
+        '2016-06-06',
+        'unknown',
+        'M02 MHSx xxx 1B',
+        'refused: odd.eps: 1 at 0: expected a first header',
+        'incomplete: part.eps: 17 at 3400: expected',
+        '6 products, 4 accepted',
+        'whole 4',
+        'refused 1',
+        'incomplete 1',
+        '72',
+    ):
         assert any(text in word for word in words), (text, words)
     assert columns_of(picture_of_overview(overview, 'png'), GAP) >= 2
     assert texts(picture_of_overview(Overview()))
@@ -172,7 +246,11 @@ def test_an_overview_s_picture():
 def test_the_command(rich, environment, tmp_path, run):
     assert run('picture', rich, 'rich.svg') == (0, '', '')
     assert (tmp_path / 'rich.svg').read_bytes() == picture_of_product(Product(rich))
-    assert run('picture', rich, 'rich.svg') == (2, '', 'warpladle: rich.svg: it is there already and is kept; --force replaces it\n')
+    assert run('picture', rich, 'rich.svg') == (
+        2,
+        '',
+        'warpladle: rich.svg: it is there already and is kept; --force replaces it\n',
+    )
     assert run('picture', rich, 'rich.svg', '--force').status == 0
     for name in ('rich.nothing', 'rich'):
         done = run('picture', rich, name)
@@ -182,5 +260,8 @@ def test_the_command(rich, environment, tmp_path, run):
     (tmp_path / 'bare' / 'matplotlib.py').write_text('raise ImportError("none here")')
     bare = f'{tmp_path}/bare:{environment["PYTHONPATH"]}'
     assert run('picture', rich, 'other.svg', PYTHONPATH=bare) == (
-        2, '', 'warpladle: a picture needs matplotlib, which is not installed here (Debian: python3-matplotlib): none here\n')
+        2,
+        '',
+        'warpladle: a picture needs matplotlib, which is not installed here (Debian: python3-matplotlib): none here\n',
+    )
     assert run('check', rich, PYTHONPATH=bare).status == 0 and not (tmp_path / 'other.svg').exists()

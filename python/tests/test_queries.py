@@ -6,7 +6,19 @@ import pytest
 from conftest import said
 from fields import FIELDS, NAMES, kind_of, line_start
 
-from warpladle import Field, GroundPoint, Moment, Product, Record, Refused, Time, all_fields, field_number, read_header, write_header
+from warpladle import (
+    Field,
+    GroundPoint,
+    Moment,
+    Product,
+    Record,
+    Refused,
+    Time,
+    all_fields,
+    field_number,
+    read_header,
+    write_header,
+)
 from warpladle import write_number_line, write_text_line, write_time_line
 
 UTC = timezone.utc
@@ -14,7 +26,7 @@ UTC = timezone.utc
 
 def patched(data, name, value):
     at, width = line_start(NAMES.index(name)) + 32, dict(FIELDS)[name]
-    return data[:at] + value.encode().rjust(width) + data[at + width:]
+    return data[:at] + value.encode().rjust(width) + data[at + width :]
 
 
 def test_the_fields_are_those_of_the_paper():
@@ -50,7 +62,7 @@ def test_fields_hold_what_stands_in_the_bytes(given, samples):
             continue
         data = given.product(case)
         for k, (name, value) in enumerate(Product(data).fields.items()):
-            raw = data[line_start(k) + 32:][:FIELDS[k][1]].decode()
+            raw = data[line_start(k) + 32 :][: FIELDS[k][1]].decode()
             if kind_of(k) == 0:
                 assert value == raw
             elif kind_of(k) in (1, 2, 3):
@@ -86,19 +98,33 @@ def test_every_record_of_the_rich_sample(samples):
     assert [product.record(k) for k in range(15)] == records
     for record, row in zip(records, product.rows.tolist(), strict=True):
         assert (record.start, record.size, record.class_, record.group, record.subclass, record.version) == row[:6]
-    assert records[12].as_dict() == {'start': 3895, 'class': 8, 'group': 9, 'subclass': 2, 'version': 1, 'size': 120,
-                                     'start_time': '2016-06-05T00:00:08.000Z', 'stop_time': '2016-06-05T00:00:09.000Z'}
+    assert records[12].as_dict() == {
+        'start': 3895,
+        'class': 8,
+        'group': 9,
+        'subclass': 2,
+        'version': 1,
+        'size': 120,
+        'start_time': '2016-06-05T00:00:08.000Z',
+        'stop_time': '2016-06-05T00:00:09.000Z',
+    }
     assert said(product.record, 15) == ['refused', 19, 15]
 
 
 def test_any_buffer_is_a_product(samples):
     import array
     import numpy
+
     data = (samples / 'rich.eps').read_bytes()
     assert len(data) % 4 == 0
     for buffer in (bytearray(data), memoryview(data), numpy.frombuffer(data, 'u1'), array.array('I', data)):
         product = Product(buffer)
-        assert (product.size, product.verdict, product.field('INSTRUMENT_ID'), bytes(product)) == (4356, 15, 'MHSx', data)
+        assert (product.size, product.verdict, product.field('INSTRUMENT_ID'), bytes(product)) == (
+            4356,
+            15,
+            'MHSx',
+            data,
+        )
     with pytest.raises((BufferError, TypeError)):
         Product(numpy.frombuffer(data, 'u1')[::2])
 
@@ -119,7 +145,9 @@ def test_ground_points(given, samples):
     for case in given.lines('leaves/points.jsonl'):
         lat, lon = (bytes.fromhex(case[key]).decode() for key in ('lat', 'lon'))
         for which in ('start', 'end'):
-            end = patched(patched(data, f'SUBSAT_LATITUDE_{which.upper()}', lat), f'SUBSAT_LONGITUDE_{which.upper()}', lon)
+            end = patched(
+                patched(data, f'SUBSAT_LATITUDE_{which.upper()}', lat), f'SUBSAT_LONGITUDE_{which.upper()}', lon
+            )
             answer = said(Product(end).ground_point, which)
             if case['answer'][0] == 'point':
                 assert [struct.pack('>d', x).hex() for x in answer] == [x['f64'] for x in case['answer'][1:]]
@@ -150,7 +178,9 @@ def test_headers(given):
             assert answer == case['read']
         if 'write' in case and len(data) == 20:
             class_, group, subclass, version, size, *times = struct.unpack('>BBBBIHIHI', data)
-            written = said(write_header, Record(0, class_, group, subclass, version, size, time_in(times[:2]), time_in(times[2:])))
+            written = said(
+                write_header, Record(0, class_, group, subclass, version, size, time_in(times[:2]), time_in(times[2:]))
+            )
             assert written == (bytes.fromhex(case['write'][1]) if case['write'][0] == 'written' else case['write'])
     assert kinds == {'header', 'refused'}
 
@@ -160,10 +190,15 @@ def moment(value):
 
 
 def test_lines(given):
-    writers = {'number': lambda k, v: write_number_line(k, None if v is None else int(v)), 'text': lambda k, v: write_text_line(k, bytes.fromhex(v)),
-               'time': lambda k, v: write_time_line(k, moment(v))}
+    writers = {
+        'number': lambda k, v: write_number_line(k, None if v is None else int(v)),
+        'text': lambda k, v: write_text_line(k, bytes.fromhex(v)),
+        'time': lambda k, v: write_time_line(k, moment(v)),
+    }
     written, refused = 0, 0
-    for case in given.lines('leaves/lines.jsonl') + [c for c in given.lines('requests/two.jsonl') if c.get('op') == 'time']:
+    for case in given.lines('leaves/lines.jsonl') + [
+        c for c in given.lines('requests/two.jsonl') if c.get('op') == 'time'
+    ]:
         expected = case.get('leap', case['answer'])
         try:
             answer = said(writers[case['op']], case['field'], case['value'])

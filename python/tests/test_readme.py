@@ -28,7 +28,15 @@ def test_the_commands(folder, environment):
     commands = shown()
     assert len(commands) >= 7
     for command, lines in commands:
-        done = subprocess.run(command, shell=True, cwd=folder, env=environment, stdout=subprocess.PIPE, stderr=subprocess.STDOUT, text=True)
+        done = subprocess.run(
+            command,
+            shell=True,
+            cwd=folder,
+            env=environment,
+            stdout=subprocess.PIPE,
+            stderr=subprocess.STDOUT,
+            text=True,
+        )
         assert done.stdout == re.sub('^    ', '', lines, flags=re.M), command
 
 
@@ -36,7 +44,10 @@ def test_the_commands(folder, environment):
 def test_two_commands_to_a_cut_file(folder, environment, name):
     """The first installs packages, which has been done; the second makes the file."""
     install, cut = re.search(r'^    (apt-get install .*)\n    (.*)\n', (ROOT / name).read_text(), re.M).groups()
-    assert 'python3-numpy' in install and subprocess.run(cut, shell=True, cwd=folder, env=environment, capture_output=True).returncode == 0
+    assert (
+        'python3-numpy' in install
+        and subprocess.run(cut, shell=True, cwd=folder, env=environment, capture_output=True).returncode == 0
+    )
     assert (folder / 'target' / 'town.eps').stat().st_size == 3843
 
 
@@ -51,6 +62,7 @@ def test_the_first_command(folder, environment):
 
 def test_every_command_is_in_both_documents():
     from warpladle.cli import COMMANDS
+
     text = (ROOT / 'README.md').read_text()
     for name in COMMANDS:
         assert re.search(rf'^\| .*`{name}[ `]', text, re.M), name

@@ -3,7 +3,20 @@ import pickle
 
 import pytest
 
-from warpladle import Product, Refused, Report, Scaled, Time, Watch, field_number, read_header, read_uth, record_arrival, replay, round_scaled
+from warpladle import (
+    Product,
+    Refused,
+    Report,
+    Scaled,
+    Time,
+    Watch,
+    field_number,
+    read_header,
+    read_uth,
+    record_arrival,
+    replay,
+    round_scaled,
+)
 from warpladle.library import ask
 from warpladle.refusal import MEANING
 
@@ -16,6 +29,7 @@ def raised(call, *given):
 
 def of_the_judge(number):
     """The first product of the judge's vectors that is refused with it."""
+
     def call(given, samples):
         lines = [line.split() for line in given.text('judge/expected.txt')]
         verdicts = [line[1:] for line in lines if line[0] == 'finished']
@@ -23,16 +37,23 @@ def of_the_judge(number):
         refused = raised(lambda: Product(given.products('judge/products.bin')[k]).verdict)
         assert refused.place == place
         return refused
+
     return call
 
 
 def of_a_request(name, number, call):
     """The first line of a request's vectors that is refused with it."""
+
     def found(given, samples):
-        case = next(case for case in given.lines(f'requests/{name}.jsonl') if case.get('answer', [0])[:2] == ['refused', number] and 'pieces' not in case)
+        case = next(
+            case
+            for case in given.lines(f'requests/{name}.jsonl')
+            if case.get('answer', [0])[:2] == ['refused', number] and 'pieces' not in case
+        )
         refused = raised(call, given, case)
         assert refused.place == case['answer'][2]
         return refused
+
     return found
 
 
@@ -44,7 +65,9 @@ def sixty_fifth(given, samples):
 
 
 def cut(given, case):
-    return Product(given.product(case)).cut(*(None if end is None else Time(*end) for end in (case['first'], case['last'])))
+    return Product(given.product(case)).cut(
+        *(None if end is None else Time(*end) for end in (case['first'], case['last']))
+    )
 
 
 def join(given, case):
@@ -60,12 +83,18 @@ def full(given, samples):
 
 
 def replayed(given, case):
-    return replay(bytes.fromhex(case['record']), given.product(case)) if case['op'] == 'replay' else record_arrival(case['lengths'], given.product(case))
+    return (
+        replay(bytes.fromhex(case['record']), given.product(case))
+        if case['op'] == 'replay'
+        else record_arrival(case['lengths'], given.product(case))
+    )
 
 
 EACH = {
     **{n: of_the_judge(n) for n in range(1, 18)},
-    18: lambda given, samples: raised(ask, 'cut', bytes(Product(samples / 'rich.eps')), 1, 6000, 0, 1, 6000, 0, bytearray(100)),
+    18: lambda given, samples: raised(
+        ask, 'cut', bytes(Product(samples / 'rich.eps')), 1, 6000, 0, 1, 6000, 0, bytearray(100)
+    ),
     19: lambda given, samples: raised(Product(samples / 'rich.eps').record, 15),
     20: lambda given, samples: raised(read_header, b'short'),
     21: lambda given, samples: raised(round_scaled, Scaled(1, 99), 0),
@@ -116,4 +145,7 @@ def test_a_missing_file_is_python_s_own_error(tmp_path):
 
 def test_an_empty_file_is_refused_as_no_bytes_are(tmp_path):
     (tmp_path / 'empty').touch()
-    assert str(raised(lambda: Product(tmp_path / 'empty').verdict)) == 'refused 17 0: expected 3307 bytes of main header, found 0'
+    assert (
+        str(raised(lambda: Product(tmp_path / 'empty').verdict))
+        == 'refused 17 0: expected 3307 bytes of main header, found 0'
+    )

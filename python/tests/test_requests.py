@@ -74,16 +74,21 @@ def test_every_check_of_a_cut(given):
         if case['answer'][0] == 'refused':
             assert place == yes == case['answer']
         else:
-            assert (yes, place) == ((True, None) if case['answer'] == ['yes'] else (False, case['answer'][1])), case['name']
+            assert (yes, place) == ((True, None) if case['answer'] == ['yes'] else (False, case['answer'][1])), case[
+                'name'
+            ]
     assert seen == {'yes', 'no', 'refused'}
 
 
 def test_the_refused_one_of_two_is_named(samples):
     good = Product(samples / 'rich.eps')
     short = Product(bytes(good)[:-1])
-    for call, words in ((lambda: good.join(short), 'the second: expected 4356 bytes, as declared, found 4355'),
-                        (lambda: short.join(good), 'the first: expected 4356'), (lambda: good.is_cut_of(short), 'the original: '),
-                        (lambda: short.is_cut_of(good), 'the cut: ')):
+    for call, words in (
+        (lambda: good.join(short), 'the second: expected 4356 bytes, as declared, found 4355'),
+        (lambda: short.join(good), 'the first: expected 4356'),
+        (lambda: good.is_cut_of(short), 'the original: '),
+        (lambda: short.is_cut_of(good), 'the cut: '),
+    ):
         with pytest.raises(Refused) as caught:
             call()
         assert caught.value.number == 17 and caught.value.words.startswith(words)
@@ -105,7 +110,9 @@ def test_every_humidity_file(given, tmp_path):
             with pytest.raises(Refused, match='expected .* found'):
                 read_uth(path)
         else:
-            assert [[b['line'], b['column'], bits(b['uth']), bits(b['csr'])] for b in answer] == case['answer'][1], case['name']
+            assert [[b['line'], b['column'], bits(b['uth']), bits(b['csr'])] for b in answer] == case['answer'][
+                1
+            ], case['name']
     assert seen == {0, 30, 31, 32, 33, 34, 35}
 
 
@@ -114,7 +121,9 @@ def test_every_report(given):
     for case in given.lines('requests/twelve.jsonl'):
         report = Report(map(int, case['before'] or ()))
         if 'times' in case:
-            answers = [said(report.add, given.products()[product]) for product, times in case['times'] for _ in range(times)]
+            answers = [
+                said(report.add, given.products()[product]) for product, times in case['times'] for _ in range(times)
+            ]
             assert told(answers[-1]) == case['last_answer'], case['name']
         else:
             answers = [said(report.add, given.products()[k]) for k in case['products']]
@@ -166,10 +175,15 @@ def test_a_report_travels(samples):
     there = pickle.loads(pickle.dumps(report))
     assert there == report and there is not report
     assert report.as_dict() == {
-        'products': 2, 'accepted': 1, 'refused': {17: 1},
+        'products': 2,
+        'accepted': 1,
+        'refused': {17: 1},
         'records': {'MPHR': 1, 'SPHR': 1, 'IPR': 5, 'GEADR': 1, 'GIADR': 1, 'VEADR': 1, 'VIADR': 1, 'MDR': 4},
         'bytes': {'MPHR': 3307, 'SPHR': 61, 'IPR': 135, 'GEADR': 32, 'GIADR': 60, 'VEADR': 27, 'VIADR': 53, 'MDR': 681},
-        'gap_ms': 21000, 'overlap_ms': 0, 'undefined_pairs': 0}
+        'gap_ms': 21000,
+        'overlap_ms': 0,
+        'undefined_pairs': 0,
+    }
 
 
 def test_every_record_of_an_arrival_and_every_replay(given):

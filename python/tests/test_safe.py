@@ -1,4 +1,5 @@
-"""Safe files: holes, outputs that are no files, endless sources, signals, files that are cut short while they are read."""
+"""Safe files: holes, outputs that are no files, endless sources, signals, files that are cut short while they are
+read."""
 import os
 import resource
 import signal
@@ -31,7 +32,9 @@ def patiently(look, seconds=30):
 @pytest.fixture
 def holed(tmp_path):
     """A product of 2 MB, of which 4 KB have come: its size was set first, as downloaders do."""
-    data = product([record((8, 9, 2), bytes(2_000_000 if k == 4 else 10), (DAY, 1000 * k), (DAY, 1000 * k)) for k in range(5)])
+    data = product(
+        [record((8, 9, 2), bytes(2_000_000 if k == 4 else 10), (DAY, 1000 * k), (DAY, 1000 * k)) for k in range(5)]
+    )
     path = tmp_path / 'hole.eps'
     with open(path, 'wb') as file:
         file.truncate(len(data))
@@ -46,13 +49,25 @@ def holed(tmp_path):
 def test_a_file_with_a_hole_is_incomplete(holed, run, tmp_path):
     path, data = holed
     done = run('check', path)
-    assert done.status == 3 and done.out.startswith(f'{path}: incomplete 17 ') and 'the file has a hole, and its bytes from 0 on have not surely come' in done.out
+    assert (
+        done.status == 3
+        and done.out.startswith(f'{path}: incomplete 17 ')
+        and 'the file has a hole, and its bytes from 0 on have not surely come' in done.out
+    )
     assert run('check', '--json', path).value['state'] == 'incomplete'
     done = run('report', path, '--json')
-    assert done.status == 0 and done.value['incomplete'] == 1 and done.value['accepted'] == 0 and done.value['entries'][0]['state'] == 'incomplete'
+    assert (
+        done.status == 0
+        and done.value['incomplete'] == 1
+        and done.value['accepted'] == 0
+        and done.value['entries'][0]['state'] == 'incomplete'
+    )
     done = run('watch', path, '--wait', '0.2')
     assert (done.status, done.out) == (3, f'{path}: incomplete, 0 whole records, 0 bytes of an unknown number\n')
-    assert run('cut', path, '2016-06-05', '2016-06-06', '-o', 'out.eps').status == 3 and not (tmp_path / 'out.eps').exists()
+    assert (
+        run('cut', path, '2016-06-05', '2016-06-06', '-o', 'out.eps').status == 3
+        and not (tmp_path / 'out.eps').exists()
+    )
     assert run('check', '--sparse', path) == (0, f'{path}: 6 records\n', '')
     path.write_bytes(data)
     assert run('check', path) == (0, f'{path}: 6 records\n', '')
@@ -95,12 +110,15 @@ def test_the_watch_waits_at_a_hole_until_it_is_filled(holed, started):
     with open(path, 'r+b', buffering=0) as file:
         for at in range(0, len(data) - 300_000, 300_000):
             file.seek(at)
-            file.write(data[at:at + 300_000])
+            file.write(data[at : at + 300_000])
             time.sleep(0.05)
             assert watching.poll() is None
         file.seek(0)
         file.write(data)
-    assert watching.stdout.readline().decode() == f'{path}: whole, 6 records, {len(data)} bytes\n' and watching.wait(30) == 0
+    assert (
+        watching.stdout.readline().decode() == f'{path}: whole, 6 records, {len(data)} bytes\n'
+        and watching.wait(30) == 0
+    )
 
 
 # ---- outputs
@@ -132,7 +150,8 @@ def writers(rich, place):
 
 @pytest.mark.parametrize('force', [[], ['--force']])
 def test_an_output_that_is_no_regular_file_is_refused(rich, run, tmp_path, force):
-    """As /dev/null is: a device of its kind stands in its place, since a command that fails here would take the real one."""
+    """As /dev/null is: a device of its kind stands in its place, since a command that fails here would take the real
+    one."""
     pictures = tmp_path / 'pictures'
     pictures.mkdir()
     for name in odd_places(tmp_path):
@@ -174,14 +193,26 @@ def test_errors_name_the_output(rich, run, tmp_path):
     for k in (0, 1):
         (tmp_path / f'{k}.eps').write_bytes(granule(k))
     done = run('join', '0.eps', '1.eps', '-o', 'no/out.eps', '--json')
-    assert done.status == 2 and done.value == {'file': 'no/out.eps', 'state': 'error', 'error': {'words': 'No such file or directory'}}
+    assert done.status == 2 and done.value == {
+        'file': 'no/out.eps',
+        'state': 'error',
+        'error': {'words': 'No such file or directory'},
+    }
 
 
 def test_a_full_disk_is_told_of_the_output(rich, tmp_path, environment):
     def limit():
         resource.setrlimit(resource.RLIMIT_FSIZE, (1000, 1000))
         signal.signal(signal.SIGXFSZ, signal.SIG_IGN)
-    done = subprocess.run(command('cut', rich, '2016-06-05', '2016-06-06', '-o', 'out.eps'), cwd=tmp_path, env=environment, capture_output=True, text=True, preexec_fn=limit)
+
+    done = subprocess.run(
+        command('cut', rich, '2016-06-05', '2016-06-06', '-o', 'out.eps'),
+        cwd=tmp_path,
+        env=environment,
+        capture_output=True,
+        text=True,
+        preexec_fn=limit,
+    )
     assert done.returncode == 2 and done.stderr == 'warpladle: out.eps: File too large\n' and os.listdir(tmp_path) == []
 
 
@@ -192,17 +223,23 @@ def small_memory():
     resource.setrlimit(resource.RLIMIT_DATA, (2**28, 2**28))
 
 
-@pytest.mark.parametrize('words', [['check'], ['list'], ['fields'], ['info'], ['level0'], ['report', '--strict'], ['explain'], ['watch']])
+@pytest.mark.parametrize(
+    'words', [['check'], ['list'], ['fields'], ['info'], ['level0'], ['report', '--strict'], ['explain'], ['watch']]
+)
 def test_an_endless_source_is_refused_and_not_kept(words, environment):
     """With 256 MiB of memory, which such a source would fill at once."""
     for place in ('/dev/zero', '/dev/full'):
-        done = subprocess.run(command(*words, place), env=environment, capture_output=True, text=True, preexec_fn=small_memory)
+        done = subprocess.run(
+            command(*words, place), env=environment, capture_output=True, text=True, preexec_fn=small_memory
+        )
         assert done.returncode == 1 and 'Traceback' not in done.stderr, (words, done)
         assert '1 0: expected a first header' in done.stdout or words == ['info']
 
 
 def test_uth_of_an_endless_source(environment):
-    done = subprocess.run(command('uth', '/dev/zero'), env=environment, capture_output=True, text=True, preexec_fn=small_memory)
+    done = subprocess.run(
+        command('uth', '/dev/zero'), env=environment, capture_output=True, text=True, preexec_fn=small_memory
+    )
     assert done.returncode == 1 and 'refused 35 642' in done.stdout
 
 
@@ -228,6 +265,7 @@ def test_a_pipe_of_many_pointers(run):
 
 def many_pointers(count=100):
     from making import pointer
+
     at = 3307 + 27 * count
     pointers = [pointer((8, 9, 2), at + 20 * k) for k in range(count)]
     return product(pointers + [record((8, 9, 2), b'', (DAY, k), (DAY, k)) for k in range(count)])
@@ -305,9 +343,17 @@ def cut_meanwhile(name, **options):
 check.open_input = report.open_input = cut_meanwhile
 sys.exit(cli.main(sys.argv[1:]))
 '''
-    for words, expected in ((['check'], 'refused 16 4356'), (['report', '--jobs', '2'], 'products 4, accepted 0, refused 4')):
+    for words, expected in (
+        (['check'], 'refused 16 4356'),
+        (['report', '--jobs', '2'], 'products 4, accepted 0, refused 4'),
+    ):
         names[2].write_bytes(rich.read_bytes() * 400)
-        done = subprocess.run([os.environ.get('PYTHON', '/usr/bin/python3'), '-B', '-c', code, *words, *map(str, names)], env=environment, capture_output=True, text=True)
+        done = subprocess.run(
+            [os.environ.get('PYTHON', '/usr/bin/python3'), '-B', '-c', code, *words, *map(str, names)],
+            env=environment,
+            capture_output=True,
+            text=True,
+        )
         assert done.returncode == 2, done
         assert done.stderr == f'warpladle: {names[2]}: it was cut short while it was read\n'
         assert done.stdout.count(expected) == (4 if words == ['check'] else 1)
@@ -330,13 +376,19 @@ product.write_into = cut_meanwhile
 sys.exit(cli.main(sys.argv[1:]))
 '''
     words = ['cut', path, '2016-06-05', '2016-06-06', '-o', out]
-    done = subprocess.run([os.environ.get('PYTHON', '/usr/bin/python3'), '-B', '-c', code, *map(str, words)], env=environment, capture_output=True, text=True)
+    done = subprocess.run(
+        [os.environ.get('PYTHON', '/usr/bin/python3'), '-B', '-c', code, *map(str, words)],
+        env=environment,
+        capture_output=True,
+        text=True,
+    )
     assert done.returncode == 2 and done.stderr == f'warpladle: {path}: it was cut short while it was read\n'
     assert os.listdir(out.parent) == []
 
 
 def test_a_small_file_cut_short_is_told(tmp_path):
     from warpladle.files import CutShort, read_file
+
     (tmp_path / 'short').write_bytes(b'x' * 10)
     with open(tmp_path / 'short', 'rb') as file:
         assert read_file('short', file.fileno(), 10) == b'x' * 10 and read_file('short', file.fileno(), 0) == b''
@@ -372,13 +424,23 @@ def test_standard_input_wherever_a_product_is_read(rich, run, tmp_path):
     (tmp_path / '-').write_bytes(b'a file of that name')
     (tmp_path / 'rich.eps').write_bytes(data)
     run('watch', 'rich.eps', '--record', 'arrival')
-    for words in (['check', '-'], ['list', '-'], ['fields', '-'], ['info', '-'], ['report', '-'], ['picture', '-', 'out.svg'], ['compare', rich, '-'],
-                  ['compare', '-', rich], ['cut', '-', '2016-06-05', '2016-06-06', '-o', 'cut.eps'], ['replay', 'arrival', '-'], ['explain', '-'], ['watch', '-']):
+    for words in (
+        ['check', '-'],
+        ['list', '-'],
+        ['fields', '-'],
+        ['info', '-'],
+        ['report', '-'],
+        ['picture', '-', 'out.svg'],
+        ['compare', rich, '-'],
+        ['compare', '-', rich],
+        ['cut', '-', '2016-06-05', '2016-06-06', '-o', 'cut.eps'],
+        ['replay', 'arrival', '-'],
+        ['explain', '-'],
+        ['watch', '-'],
+    ):
         done = run(*words, stdin=data)
         assert done.status == 0, (words, done)
     done = run('join', 'rich.eps', '-', '-o', 'no.eps', stdin=data)
     assert done.status == 2 and '27 0: expected - to start' in done.err
     assert run('uth', '-', stdin=(ROOT / 'samples' / 'humidity.uth').read_bytes()).out.startswith('40 41')
     assert run('picture', rich, '-').out.startswith('<?xml') and (tmp_path / '-').read_bytes() == b'a file of that name'
-
-

@@ -1,4 +1,5 @@
-"""A reader that no one here wrote: satpy's, of AVHRR level 1B, which has a record description of its own, reads what is cut and joined here."""
+"""A reader that no one here wrote: satpy's, of AVHRR level 1B, which has a record description of its own, reads what is
+cut and joined here."""
 import struct
 
 import numpy
@@ -16,6 +17,7 @@ AVHRR, LINE = 4, 400  # the group, and milliseconds of a scan line
 def form():
     from satpy._config import get_config_path
     from satpy.readers.xmlformat import XMLFormat
+
     return XMLFormat(get_config_path('eps_avhrrl1b_6.5.xml'))
 
 
@@ -46,11 +48,13 @@ def scan_line(form, k):
 
 
 def granule(form, first, count):
-    """A granule of so many lines: SPHR, GIADRs of subclass 1 and 2 and MDRs of subclass 2; the former have the times of the first and the last MDR,
-    as 002's Table 15 has it."""
+    """A granule of so many lines: SPHR, GIADRs of subclass 1 and 2 and MDRs of subclass 2; the former have the times of
+    the first and the last MDR, as 002's Table 15 has it."""
     times = (DAY, LINE * first), (DAY, LINE * (first + count))
-    fixed = [record((2, AVHRR, 0), sphr_text(form), *times, 3),
-             *(record((5, AVHRR, subclass), filled(form, ('giadr', subclass)), *times, 3) for subclass in (1, 2))]
+    fixed = [
+        record((2, AVHRR, 0), sphr_text(form), *times, 3),
+        *(record((5, AVHRR, subclass), filled(form, ('giadr', subclass)), *times, 3) for subclass in (1, 2)),
+    ]
     lines = [scan_line(form, k) for k in range(first, first + count)]
     return product(fixed + lines, INSTRUMENT_ID='AVHR', PROCESSING_LEVEL='1B', SPACECRAFT_ID='M02', PRODUCT_TYPE='xxx')
 
@@ -76,7 +80,9 @@ def holds(handler, lines):
     assert mdrs['SCENE_RADIANCES'][:, 0, 0].tolist() == [k % 30000 for k in lines]
     assert (mdrs['SCENE_RADIANCES'][:, 3, :] == numpy.arange(2048)).all()
     assert mdrs['EARTH_LOCATION_FIRST'].tolist() == [[10 * k, -10 * k] for k in lines]
-    assert [struct.unpack('>HI', time.ljust(6, b'\0')) for time in mdrs['RECORD_START_TIME'].tolist()] == [(DAY, LINE * k) for k in lines]
+    assert [struct.unpack('>HI', time.ljust(6, b'\0')) for time in mdrs['RECORD_START_TIME'].tolist()] == [
+        (DAY, LINE * k) for k in lines
+    ]
 
 
 def test_a_granule_a_join_and_a_cut(two, tmp_path):
@@ -103,4 +109,6 @@ def test_the_times_of_our_own_are_those_that_it_reads(two):
     """An undefined time is none of them."""
     first, _ = two
     assert struct.pack('>HI', *UNDEFINED) == b'\xff' * 6
-    assert first.times['start'][4:].astype('i8').tolist() == [946_684_800_000 + 86_400_000 * DAY + LINE * k for k in range(36)]
+    assert first.times['start'][4:].astype('i8').tolist() == [
+        946_684_800_000 + 86_400_000 * DAY + LINE * k for k in range(36)
+    ]

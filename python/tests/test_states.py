@@ -39,14 +39,21 @@ def commands(name):
     yield 'report', '--strict', name
 
 
-@pytest.mark.parametrize('name, status, state, number', [('part.eps', 3, 'incomplete', 17), ('bad.eps', 1, 'refused', 16), ('html.eps', 1, 'refused', 1)])
+@pytest.mark.parametrize(
+    'name, status, state, number',
+    [('part.eps', 3, 'incomplete', 17), ('bad.eps', 1, 'refused', 16), ('html.eps', 1, 'refused', 1)],
+)
 def test_every_command_tells_the_state(files, run, name, status, state, number):
     for words in commands(name):
         done = run(*words, '--json')
         assert done.status == status, (words, done)
         assert done.value['state'] == state, words
         if words[0] not in ('watch', 'picture', 'report', 'info'):
-            assert done.value['accepted'] is False and done.value['refusal']['number'] == number and done.value['file'] == name
+            assert (
+                done.value['accepted'] is False
+                and done.value['refusal']['number'] == number
+                and done.value['file'] == name
+            )
         done = run(*words)
         assert done.status == status and 'Traceback' not in done.err, (words, done)
     assert not (files / 'out.eps').exists()
@@ -63,11 +70,17 @@ def test_of_a_whole_product_no_command_says_otherwise(files, run):
 
 def test_faults_of_the_question_are_none_of_the_product(files, run):
     """2, with `error` and no `accepted`."""
-    for words, number in ((['fields', 'whole.eps', 'SENSING_STRT'], 22), (['cut', 'whole.eps', *WINDOW[::-1], '-o', 'out.eps'], 25),
-                          (['join', 'whole.eps', 'whole.eps', '-o', 'out.eps'], 27), (['replay', 'whole.eps', 'whole.eps'], 37)):
+    for words, number in (
+        (['fields', 'whole.eps', 'SENSING_STRT'], 22),
+        (['cut', 'whole.eps', *WINDOW[::-1], '-o', 'out.eps'], 25),
+        (['join', 'whole.eps', 'whole.eps', '-o', 'out.eps'], 27),
+        (['replay', 'whole.eps', 'whole.eps'], 37),
+    ):
         done = run(*words, '--json')
         assert done.status == 2, (words, done)
-        assert done.value['state'] == 'error' and done.value['error']['number'] == number and 'accepted' not in done.value
+        assert (
+            done.value['state'] == 'error' and done.value['error']['number'] == number and 'accepted' not in done.value
+        )
         done = run(*words)
         assert (done.status, done.out) == (2, '') and f'refused {number} 0: ' in done.err
     assert not (files / 'out.eps').exists()
@@ -76,7 +89,11 @@ def test_faults_of_the_question_are_none_of_the_product(files, run):
 
 def test_the_input_at_fault_is_named(files, run):
     done = run('join', 'whole.eps', 'part.eps', '-o', 'out.eps', '--json')
-    assert done.status == 3 and (done.value['file'], done.value['input'], done.value['state']) == ('part.eps', 'part.eps', 'incomplete')
+    assert done.status == 3 and (done.value['file'], done.value['input'], done.value['state']) == (
+        'part.eps',
+        'part.eps',
+        'incomplete',
+    )
     done = run('compare', 'whole.eps', 'bad.eps', '--json')
     assert done.status == 1 and done.value['input'] == 'bad.eps'
     done = run('join', 'whole.eps', 'whole.eps', '-o', 'out.eps', '--json')
@@ -85,15 +102,26 @@ def test_the_input_at_fault_is_named(files, run):
 
 def test_a_missing_file_is_json_too(files, run):
     error = {'file': 'none.eps', 'state': 'error', 'error': {'words': 'No such file or directory'}}
-    for words in [*commands('none.eps'), ('fields', 'none.eps'), ('uth', 'none.eps'), ('replay', 'none.eps', 'whole.eps'), ('replay', 'whole.eps', 'none.eps')]:
+    for words in [
+        *commands('none.eps'),
+        ('fields', 'none.eps'),
+        ('uth', 'none.eps'),
+        ('replay', 'none.eps', 'whole.eps'),
+        ('replay', 'whole.eps', 'none.eps'),
+    ]:
         done = run(*words, '--json')
         assert done.status == 2 and done.err == 'warpladle: none.eps: No such file or directory\n', (words, done)
         assert done.value == error or done.value['unreadable'] == [error], words
 
 
 def test_the_worst_of_many_is_told(files, run):
-    for names, status in ((['whole.eps', 'whole.eps'], 0), (['whole.eps', 'part.eps'], 3), (['part.eps', 'bad.eps', 'whole.eps'], 1), (['bad.eps', 'part.eps'], 1),
-                          (['none.eps', 'bad.eps', 'part.eps'], 2)):
+    for names, status in (
+        (['whole.eps', 'whole.eps'], 0),
+        (['whole.eps', 'part.eps'], 3),
+        (['part.eps', 'bad.eps', 'whole.eps'], 1),
+        (['bad.eps', 'part.eps'], 1),
+        (['none.eps', 'bad.eps', 'part.eps'], 2),
+    ):
         assert run('check', *names).status == status
 
 
@@ -101,15 +129,48 @@ KEYS = {
     'check': {'file', 'state', 'accepted', 'records', 'bytes', 'product_name', 'sensing_start', 'sensing_end'},
     'list': {'file', 'state', 'records'},
     'fields': {'file', 'state', 'fields', 'units'},
-    'info': {'file', 'state', 'bytes', 'records', 'product_name', 'spacecraft', 'instrument', 'type', 'level', 'sensing_start', 'sensing_end', 'orbit_start',
-             'orbit_end', 'ground_start', 'ground_end', 'totals', 'declared', 'subsetted'},
+    'info': {
+        'file',
+        'state',
+        'bytes',
+        'records',
+        'product_name',
+        'spacecraft',
+        'instrument',
+        'type',
+        'level',
+        'sensing_start',
+        'sensing_end',
+        'orbit_start',
+        'orbit_end',
+        'ground_start',
+        'ground_end',
+        'totals',
+        'declared',
+        'subsetted',
+    },
     'explain': {'file', 'state', 'records'},
     'watch': {'file', 'state', 'accepted', 'records', 'end', 'bytes', 'declared'},
     'cut': {'file', 'state', 'records', 'bytes', 'mdrs', 'of_mdrs'},
     'join': {'file', 'state', 'records', 'bytes', 'mdrs'},
     'compare': {'file', 'original', 'state', 'is_cut'},
-    'report': {'products', 'accepted', 'refused', 'records', 'bytes', 'gap_ms', 'overlap_ms', 'undefined_pairs', 'state', 'incomplete', 'numbers', 'between', 'twice',
-               'unreadable', 'entries'},
+    'report': {
+        'products',
+        'accepted',
+        'refused',
+        'records',
+        'bytes',
+        'gap_ms',
+        'overlap_ms',
+        'undefined_pairs',
+        'state',
+        'incomplete',
+        'numbers',
+        'between',
+        'twice',
+        'unreadable',
+        'entries',
+    },
     'picture': {'file', 'picture', 'state', 'bytes'},
     'level0': {'file', 'state', 'accepted', 'records', 'bytes', 'product_name', 'sensing_start', 'sensing_end'},
     'uth': {'file', 'state', 'blocks'},
@@ -120,10 +181,19 @@ KEYS = {
 def test_the_keys_of_every_command(files, run, samples):
     for k in (0, 1):
         (files / f'{k}.eps').write_bytes(granule(k))
-    (files / 'town.eps').write_bytes(bytes(Product(files / 'whole.eps').cut('2016-06-05T00:00:08Z', '2016-06-05T00:00:20Z')))
+    (files / 'town.eps').write_bytes(
+        bytes(Product(files / 'whole.eps').cut('2016-06-05T00:00:08Z', '2016-06-05T00:00:20Z'))
+    )
     assert run('watch', 'whole.eps', '--record', 'arrival').status == 0
-    words = {'compare': ['whole.eps', 'town.eps'], 'cut': ['whole.eps', *WINDOW, '-o', 'c.eps'], 'join': ['0.eps', '1.eps', '-o', 'j.eps'],
-             'level0': [samples / 'example.eps'], 'picture': ['whole.eps', 'p.svg'], 'replay': ['arrival', 'whole.eps'], 'uth': [samples / 'humidity.uth']}
+    words = {
+        'compare': ['whole.eps', 'town.eps'],
+        'cut': ['whole.eps', *WINDOW, '-o', 'c.eps'],
+        'join': ['0.eps', '1.eps', '-o', 'j.eps'],
+        'level0': [samples / 'example.eps'],
+        'picture': ['whole.eps', 'p.svg'],
+        'replay': ['arrival', 'whole.eps'],
+        'uth': [samples / 'humidity.uth'],
+    }
     documented = (ROOT / 'python' / 'README.md').read_text()
     for name, keys in KEYS.items():
         done = run(name, *words.get(name, ['whole.eps']), '--json')
@@ -134,7 +204,11 @@ def test_the_keys_of_every_command(files, run, samples):
 
 def test_the_keys_of_a_refusal(files, run):
     value = run('check', '--json', '--all', 'bad.eps').value
-    assert set(value) == {'file', 'state', 'accepted', 'refusal', 'bytes'} and set(value['refusal']) == {'number', 'place', 'words'}
+    assert set(value) == {'file', 'state', 'accepted', 'refusal', 'bytes'} and set(value['refusal']) == {
+        'number',
+        'place',
+        'words',
+    }
     value = run('explain', '--json', '13').value
     assert set(value) == {'number', 'name', 'meaning', 'place', 'causes', 'mend'} and value['name'] == 'POINTS_INSIDE'
 
@@ -158,18 +232,28 @@ def test_a_watched_file_of_many_pointers(run, tmp_path, started):
     done = run('watch', path)
     assert done.status == 1 and done.out.startswith(f'{path}: refused 16 {len(many)}: expected {len(many)} bytes')
     path.write_bytes(many[:-30])
-    assert run('watch', path, '--wait', '0').out == f'{path}: incomplete, 199 whole records, {len(many) - 30} bytes of {len(many)}\n'
+    assert (
+        run('watch', path, '--wait', '0').out
+        == f'{path}: incomplete, 199 whole records, {len(many) - 30} bytes of {len(many)}\n'
+    )
     watching = started('watch', path)
     with open(path, 'ab', buffering=0) as file:
         for at in range(len(many) - 30, len(many)):
             assert watching.poll() is None
-            file.write(many[at:at + 1])
-    assert watching.stdout.readline().decode() == f'{path}: whole, 201 records, {len(many)} bytes\n' and watching.wait(30) == 0
+            file.write(many[at : at + 1])
+    assert (
+        watching.stdout.readline().decode() == f'{path}: whole, 201 records, {len(many)} bytes\n'
+        and watching.wait(30) == 0
+    )
 
 
 def test_a_watched_stream_of_many_pointers_says_who_can_do_it(run):
     done = run('watch', stdin=many_pointers())
-    assert (done.status, done.out) == (2, '') and 'refused 24 5035: a watch of a stream follows 64 pointer records' in done.err and '`check`' in done.err
+    assert (
+        (done.status, done.out) == (2, '')
+        and 'refused 24 5035: a watch of a stream follows 64 pointer records' in done.err
+        and '`check`' in done.err
+    )
     value = run('watch', '--json', stdin=many_pointers()).value
     assert value['state'] == 'error' and value['error']['number'] == 24
 
@@ -187,18 +271,31 @@ def test_a_watched_file_may_be_renamed(started, rich, tmp_path):
     data, path = rich.read_bytes(), tmp_path / 'new.eps.part'
     path.write_bytes(data[:3500])
     watching = started('watch', path)
-    patiently(lambda: any(os.path.realpath(f'/proc/{watching.pid}/fd/{fd}') == str(path) for fd in os.listdir(f'/proc/{watching.pid}/fd')))
+    patiently(
+        lambda: any(
+            os.path.realpath(f'/proc/{watching.pid}/fd/{fd}') == str(path)
+            for fd in os.listdir(f'/proc/{watching.pid}/fd')
+        )
+    )
     path.rename(tmp_path / 'new.eps')
     with open(tmp_path / 'new.eps', 'ab') as file:
         file.write(data[3500:])
-    assert watching.stdout.readline().decode() == f'{path}: whole, 15 records, 4356 bytes (it is {tmp_path}/new.eps now)\n' and watching.wait(30) == 0
+    assert (
+        watching.stdout.readline().decode() == f'{path}: whole, 15 records, 4356 bytes (it is {tmp_path}/new.eps now)\n'
+        and watching.wait(30) == 0
+    )
 
 
 def test_a_watched_file_may_be_replaced(started, rich, tmp_path):
     data, path = rich.read_bytes(), tmp_path / 'new.eps'
     path.write_bytes(data[:3500])
     watching = started('watch', path, '--json')
-    patiently(lambda: any(os.path.realpath(f'/proc/{watching.pid}/fd/{fd}') == str(path) for fd in os.listdir(f'/proc/{watching.pid}/fd')))
+    patiently(
+        lambda: any(
+            os.path.realpath(f'/proc/{watching.pid}/fd/{fd}') == str(path)
+            for fd in os.listdir(f'/proc/{watching.pid}/fd')
+        )
+    )
     (tmp_path / 'other').write_bytes(data)
     os.replace(tmp_path / 'other', path)
     value = json.loads(watching.stdout.readline())

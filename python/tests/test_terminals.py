@@ -22,12 +22,22 @@ def words(tmp_path, rich, samples):
         (tmp_path / f'{k}.eps').write_bytes(granule(k))
     (tmp_path / 'rich.eps').write_bytes(rich.read_bytes())
     from warpladle import record_arrival
+
     (tmp_path / 'arrival').write_bytes(record_arrival([4000, 356], rich.read_bytes()))
     found = {name: [name, 'rich.eps'] for name in COMMANDS}
-    found.update({'compare': ['compare', 'rich.eps', 'rich.eps'], 'cut': ['cut', 'rich.eps', *TOWN, '-o', 'cut.eps', '--force'],
-                  'join': ['join', '0.eps', '1.eps', '-o', 'join.eps', '--force'], 'level0': ['level0', samples / 'example.eps'],
-                  'picture': ['picture', 'rich.eps', 'p.svg', '--force', '--json'], 'replay': ['replay', 'arrival', 'rich.eps'], 'uth': ['uth', samples / 'humidity.uth'],
-                  'completion': ['completion', 'bash'], 'help': ['help', 'join']})
+    found.update(
+        {
+            'compare': ['compare', 'rich.eps', 'rich.eps'],
+            'cut': ['cut', 'rich.eps', *TOWN, '-o', 'cut.eps', '--force'],
+            'join': ['join', '0.eps', '1.eps', '-o', 'join.eps', '--force'],
+            'level0': ['level0', samples / 'example.eps'],
+            'picture': ['picture', 'rich.eps', 'p.svg', '--force', '--json'],
+            'replay': ['replay', 'arrival', 'rich.eps'],
+            'uth': ['uth', samples / 'humidity.uth'],
+            'completion': ['completion', 'bash'],
+            'help': ['help', 'join'],
+        }
+    )
     return found
 
 
@@ -36,7 +46,15 @@ def in_terminal(words, environment, folder, columns=60):
     seen, terminal = pty.openpty()
     fcntl.ioctl(terminal, termios.TIOCSWINSZ, struct.pack('HHHH', 24, columns, 0, 0))
     env = {name: value for name, value in environment.items() if name not in ('COLUMNS', 'LINES')}
-    process = subprocess.Popen(command(*words), cwd=folder, env={**env, 'TERM': 'xterm'}, stdin=terminal, stdout=terminal, stderr=terminal, start_new_session=True)
+    process = subprocess.Popen(
+        command(*words),
+        cwd=folder,
+        env={**env, 'TERM': 'xterm'},
+        stdin=terminal,
+        stdout=terminal,
+        stderr=terminal,
+        start_new_session=True,
+    )
     os.close(terminal)
     shown = b''
     while True:
@@ -75,17 +93,30 @@ def test_a_progress_bar_on_a_terminal(environment, tmp_path, words):
 
 @pytest.mark.parametrize('name', COMMANDS)
 def test_without_a_terminal_and_with_lang_c(name, words, environment, tmp_path):
-    plain = {name: value for name, value in environment.items() if not name.startswith('LC_') and name not in ('LANG', 'TERM', 'COLUMNS')}
+    plain = {
+        name: value
+        for name, value in environment.items()
+        if not name.startswith('LC_') and name not in ('LANG', 'TERM', 'COLUMNS')
+    }
     os.rename(tmp_path / 'rich.eps', os.fsencode(tmp_path) + b'/r\xff\xc3.eps')
     given = [os.fsencode(str(word)).replace(b'rich.eps', b'r\xff\xc3.eps') for word in words[name]]
     for more in ({'LANG': 'C', 'LC_ALL': 'C'}, {'LANG': 'C', 'PYTHONUTF8': '0', 'PYTHONCOERCECLOCALE': '0'}):
-        done = subprocess.run([*command(), *given], cwd=tmp_path, env={**plain, **more}, capture_output=True, stdin=subprocess.DEVNULL, start_new_session=True)
+        done = subprocess.run(
+            [*command(), *given],
+            cwd=tmp_path,
+            env={**plain, **more},
+            capture_output=True,
+            stdin=subprocess.DEVNULL,
+            start_new_session=True,
+        )
         assert done.returncode == 0 and b'Traceback' not in done.stderr, (name, done)
 
 
 @pytest.mark.parametrize('name', COMMANDS)
 def test_with_a_closed_pipe(name, words, environment, tmp_path):
-    with subprocess.Popen(command(*words[name]), cwd=tmp_path, env=environment, stdout=subprocess.PIPE, stderr=subprocess.PIPE) as process:
+    with subprocess.Popen(
+        command(*words[name]), cwd=tmp_path, env=environment, stdout=subprocess.PIPE, stderr=subprocess.PIPE
+    ) as process:
         process.stdout.close()
         assert process.wait(60) in (0, 141)
         assert b'Traceback' not in process.stderr.read()
@@ -93,7 +124,9 @@ def test_with_a_closed_pipe(name, words, environment, tmp_path):
 
 def test_a_pipe_closed_early_is_141(environment, tmp_path, words):
     for given in (['list', 'rich.eps'], ['check', *['rich.eps'] * 2000], ['info', 'rich.eps']):
-        with subprocess.Popen(command(*given), cwd=tmp_path, env=environment, stdout=subprocess.PIPE, stderr=subprocess.PIPE) as process:
+        with subprocess.Popen(
+            command(*given), cwd=tmp_path, env=environment, stdout=subprocess.PIPE, stderr=subprocess.PIPE
+        ) as process:
             process.stdout.close()
             assert process.wait(60) == 141 and process.stderr.read() == b''
 
@@ -101,7 +134,18 @@ def test_a_pipe_closed_early_is_141(environment, tmp_path, words):
 def test_output_that_takes_nothing(environment, tmp_path, words):
     for name in ('check', 'list', 'fields', 'info'):
         with open('/dev/full', 'w') as full:
-            done = subprocess.run(command(*words[name]), cwd=tmp_path, env=environment, stdout=full, stderr=subprocess.PIPE)
-        assert done.returncode == 2 and done.stderr == b'warpladle: standard output: No space left on device\n', (name, done)
-    done = subprocess.run(' '.join(map(str, command('check', 'rich.eps'))) + ' >&-', shell=True, cwd=tmp_path, env=environment, stderr=subprocess.PIPE)
+            done = subprocess.run(
+                command(*words[name]), cwd=tmp_path, env=environment, stdout=full, stderr=subprocess.PIPE
+            )
+        assert done.returncode == 2 and done.stderr == b'warpladle: standard output: No space left on device\n', (
+            name,
+            done,
+        )
+    done = subprocess.run(
+        ' '.join(map(str, command('check', 'rich.eps'))) + ' >&-',
+        shell=True,
+        cwd=tmp_path,
+        env=environment,
+        stderr=subprocess.PIPE,
+    )
     assert (done.returncode, done.stderr) == (2, b'warpladle: standard input and output must be open\n')

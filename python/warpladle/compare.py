@@ -1,4 +1,5 @@
-"""Why one product is no cut of another, in words: the library has given the place, and this looks at what stands there."""
+"""Why one product is no cut of another, in words: the library has given the place, and this looks at what stands
+there."""
 from __future__ import annotations
 
 from .headers import RecordClass
@@ -15,7 +16,9 @@ def explain_mismatch(cut: Product, original: Product, place: int) -> str:
     if place == 0:
         return 'a line of the main header differs: ' + ', '.join(
             f'{name} is {original.field(name)!r} in the original and {cut.field(name)!r} in the cut'
-            for name in FOUR if original.field(name) != cut.field(name))
+            for name in FOUR
+            if original.field(name) != cut.field(name)
+        )
     if place == cut.size:
         return f'a record of the original is missing: {_missing(cut, original)}'
     row = next(row for row in map(_row, cut.row_tuples()) if row.start == place)
@@ -33,7 +36,7 @@ def _carried(product: Product, end: int) -> list[Row]:
 
 
 def _bytes_of(product: Product, row: Row) -> bytes:
-    return bytes(product.data[row.start:row.start + row.size])
+    return bytes(product.data[row.start : row.start + row.size])
 
 
 def _missing(cut: Product, original: Product) -> str:
@@ -48,7 +51,9 @@ def _changed_other(cut: Product, original: Product, row: Row) -> str:
         return 'the original has no SPHR or auxiliary record more'
     at = first_difference(_bytes_of(original, theirs[k]), _bytes_of(cut, row), False)
     named = f'{which_at(original.data, theirs[k].start)} at {theirs[k].start}'
-    return f'the next such record of the original, {named}, differs from byte {at} of the record on ({part_name(at or 0)})'
+    return (
+        f'the next such record of the original, {named}, differs from byte {at} of the record on ({part_name(at or 0)})'
+    )
 
 
 def _changed_mdr(cut: Product, original: Product, row: Row) -> str:
@@ -69,8 +74,14 @@ def _changed_mdr(cut: Product, original: Product, row: Row) -> str:
         return f'the original has no MDR from {times[0]} to {times[1]}'
     at = first_difference(_bytes_of(original, alike), wanted, False)
     named = f'{which_at(original.data, alike.start)} of the original, at {alike.start}'
-    return f'it is changed: {named}, has the same times and differs from byte {at} of the record on ({part_name(at or 0)})'
+    return (
+        f'it is changed: {named}, has the same times and differs from byte {at} of the record on ({part_name(at or 0)})'
+    )
 
 
 def _is(product: Product, row: Row, wanted: bytes) -> bool:
-    return row.size == len(wanted) and bytes(product.data[row.start:row.start + 20]) == wanted[:20] and _bytes_of(product, row) == wanted
+    return (
+        row.size == len(wanted)
+        and bytes(product.data[row.start : row.start + 20]) == wanted[:20]
+        and _bytes_of(product, row) == wanted
+    )

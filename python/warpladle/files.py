@@ -59,8 +59,8 @@ def read_file(name: str, handle: int, size: int) -> bytes | bytearray:
 
 
 def read_stream(file: Any, is_over: Callable[[bytearray, bytes], bool] = lambda data, part: False) -> bytearray:
-    """All that comes of a stream, up to 2^31 bytes, or up to the part with which it is over: asked of all that has come, and of
-    the part that came last."""
+    """All that comes of a stream, up to 2^31 bytes, or up to the part with which it is over: asked of all that has
+    come, and of the part that came last."""
     data = bytearray()
     while len(data) < MOST:
         part = file.read(min(PART, MOST - len(data)))
@@ -73,7 +73,8 @@ def read_stream(file: Any, is_over: Callable[[bytearray, bytes], bool] = lambda 
 
 
 def first_hole(handle: int, size: int) -> int:
-    """Where the first hole of a regular file of so many bytes is; its size where it has none, or its file system knows of none."""
+    """Where the first hole of a regular file of so many bytes is; its size where it has none, or its file system knows
+    of none."""
     try:
         return min(size, os.lseek(handle, 0, os.SEEK_HOLE)) if size else 0
     except OSError:
@@ -81,8 +82,8 @@ def first_hole(handle: int, size: int) -> int:
 
 
 def surely_come(handle: int, about: os.stat_result) -> int:
-    """How many bytes of a regular file have surely come: all of them, or those before the last block before its first hole,
-    which may be half written. It moves the place at which the file is read next."""
+    """How many bytes of a regular file have surely come: all of them, or those before the last block before its first
+    hole, which may be half written. It moves the place at which the file is read next."""
     hole = first_hole(handle, about.st_size)
     if hole == about.st_size:
         return hole
@@ -107,7 +108,8 @@ def _open_room(handle: int, size: int) -> mmap.mmap:
 
 
 def refuse_to_overwrite(path: PathLike, *, force: bool) -> None:
-    """FileExistsError where a file stands there and is to be kept; OSError where it is no regular file, forced or not."""
+    """FileExistsError where a file stands there and is to be kept; OSError where it is no regular file, forced or
+    not."""
     if os.path.lexists(path) and not os.path.isfile(path) and os.path.exists(path):
         kind = 'a folder' if os.path.isdir(path) else 'a device, a pipe or a socket'
         raise OSError(errno.EINVAL, f'it is {kind} and no regular file, and is not written to', str(path))
@@ -130,7 +132,8 @@ def sweep_parts(path: PathLike, process: int) -> None:
 
 @contextmanager
 def beside(path: PathLike, size: int, *, force: bool = False) -> Iterator[mmap.mmap]:
-    """A mapped file of so many bytes, made beside its place and moved there when the block ends; of an error nothing is left.
+    """A mapped file of so many bytes, made beside its place and moved there when the block ends; of an error nothing is
+    left.
 
     A symbolic link is followed: its target is made or replaced. What goes wrong is told of `path`.
     """
@@ -139,7 +142,9 @@ def beside(path: PathLike, size: int, *, force: bool = False) -> Iterator[mmap.m
     part = None
     try:
         with told_of(path):
-            handle, part = tempfile.mkstemp(prefix=part_prefix(path, os.getpid()), suffix='.part', dir=os.path.dirname(place))
+            handle, part = tempfile.mkstemp(
+                prefix=part_prefix(path, os.getpid()), suffix='.part', dir=os.path.dirname(place)
+            )
             try:
                 os.fchmod(handle, 0o666 & ~_mask())
                 room = _open_room(handle, size)

@@ -77,8 +77,16 @@ class Record(NamedTuple):
     def as_dict(self) -> dict[str, int | str | None]:
         """By name, with its times in ISO 8601."""
         start, stop = (None if time is None else time.isoformat() for time in (self.start_time, self.stop_time))
-        return {'start': self.start, 'class': self.class_, 'group': self.group, 'subclass': self.subclass,
-                'version': self.version, 'size': self.size, 'start_time': start, 'stop_time': stop}
+        return {
+            'start': self.start,
+            'class': self.class_,
+            'group': self.group,
+            'subclass': self.subclass,
+            'version': self.version,
+            'size': self.size,
+            'start_time': start,
+            'stop_time': stop,
+        }
 
 
 def record_of(values: tuple[int, ...]) -> Record:
@@ -106,7 +114,8 @@ def write_header(record: Record) -> bytes:
 
 
 class Field(NamedTuple):
-    """A field of the main header: its number, name, where its line starts, its value's width and kind (`TEXT` to `LONG_TIME`)."""
+    """A field of the main header: its number, name, where its line starts, its value's width and kind (`TEXT` to
+    `LONG_TIME`)."""
 
     number: int
     name: str
@@ -129,16 +138,19 @@ def _units() -> dict[str, str]:
     """002's units of the numbers of the main header."""
     degrees = 'INCLINATION PERIGEE_ARGUMENT RIGHT_ASCENSION MEAN_ANOMALY YAW_ERROR ROLL_ERROR PITCH_ERROR'.split()
     degrees += [f'SUBSAT_{part}_{end}' for part in ('LATITUDE', 'LONGITUDE') for end in ('START', 'END')]
-    of = {'0.001 degree': degrees,
-          'mm': ['SEMI_MAJOR_AXIS', 'X_POSITION', 'Y_POSITION', 'Z_POSITION'],
-          'mm/s': ['X_VELOCITY', 'Y_VELOCITY', 'Z_VELOCITY'],
-          'm': [f'LOCATION_TOLERANCE_{way}' for way in ('RADIAL', 'CROSSTRACK', 'ALONGTRACK')],
-          '0.000001': ['ECCENTRICITY', 'EARTH_SUN_DISTANCE_RATIO'],
-          'ms': ['DURATION_OF_PRODUCT', 'MILLISECONDS_OF_DATA_PRESENT', 'MILLISECONDS_OF_DATA_MISSING'],
-          's': ['LEAP_SECOND'], 'bytes': ['ACTUAL_PRODUCT_SIZE'],
-          'records': ['TOTAL_RECORDS', *(f'TOTAL_{name}' for name in CLASSES[1:])],
-          'MDRs': ['COUNT_DEGRADED_INST_MDR', 'COUNT_DEGRADED_PROC_MDR'],
-          'blocks': ['COUNT_DEGRADED_INST_MDR_BLOCKS', 'COUNT_DEGRADED_PROC_MDR_BLOCKS']}
+    of = {
+        '0.001 degree': degrees,
+        'mm': ['SEMI_MAJOR_AXIS', 'X_POSITION', 'Y_POSITION', 'Z_POSITION'],
+        'mm/s': ['X_VELOCITY', 'Y_VELOCITY', 'Z_VELOCITY'],
+        'm': [f'LOCATION_TOLERANCE_{way}' for way in ('RADIAL', 'CROSSTRACK', 'ALONGTRACK')],
+        '0.000001': ['ECCENTRICITY', 'EARTH_SUN_DISTANCE_RATIO'],
+        'ms': ['DURATION_OF_PRODUCT', 'MILLISECONDS_OF_DATA_PRESENT', 'MILLISECONDS_OF_DATA_MISSING'],
+        's': ['LEAP_SECOND'],
+        'bytes': ['ACTUAL_PRODUCT_SIZE'],
+        'records': ['TOTAL_RECORDS', *(f'TOTAL_{name}' for name in CLASSES[1:])],
+        'MDRs': ['COUNT_DEGRADED_INST_MDR', 'COUNT_DEGRADED_PROC_MDR'],
+        'blocks': ['COUNT_DEGRADED_INST_MDR_BLOCKS', 'COUNT_DEGRADED_PROC_MDR_BLOCKS'],
+    }
     return {name: unit for unit, names in of.items() for name in names}
 
 
@@ -171,6 +183,7 @@ def field_number(name: str) -> int:
 def _meant(name: str) -> str:
     """The field that was meant, where one is near."""
     import difflib
+
     near = difflib.get_close_matches(name.upper(), [line.name for line in all_fields()], 1)
     return f'; did you mean {near[0]}?' if near else ''
 
@@ -182,7 +195,7 @@ def all_fields() -> list[Field]:
 
 def _written(name: str, *given: object) -> bytes:
     room = bytearray(128)
-    return bytes(room[:ask(name, room, *given)[0]])
+    return bytes(room[: ask(name, room, *given)[0]])
 
 
 def write_text_line(k: int, text: bytes | str) -> bytes:

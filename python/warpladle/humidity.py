@@ -33,12 +33,15 @@ def read_blocks(source: PathLike | Buffer) -> list[Block]:
     """
     data = map_file(source) if isinstance(source, (str, os.PathLike)) else source
     places, values = _read(data)
-    return [Block(places[4 * k], places[4 * k + 1], *(values[2 * k + j] if places[4 * k + 2 + j] else None for j in (0, 1)))
-            for k in range(len(places) // 4)]
+    return [
+        Block(places[4 * k], places[4 * k + 1], *(values[2 * k + j] if places[4 * k + 2 + j] else None for j in (0, 1)))
+        for k in range(len(places) // 4)
+    ]
 
 
 def read_uth(source: PathLike | Buffer) -> numpy.typing.NDArray[numpy.void]:
-    """The blocks of a humidity file: line and column, 1 to 80, UTH in percent and CSR in Kelvin, each a NaN where it is missing.
+    """The blocks of a humidity file: line and column, 1 to 80, UTH in percent and CSR in Kelvin, each a NaN where it is
+    missing.
 
     Raises Refused: 30 to 35.
     """

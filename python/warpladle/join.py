@@ -21,7 +21,15 @@ FIXED = (RecordClass.SPHR, RecordClass.GEADR, RecordClass.GIADR)
 TIMES = range(8, HEADER)  # the bytes of a header with its two times, which are those of its own product (002, Table 15)
 GAP = 1000  # milliseconds between two granules beyond which a user is told
 ALLOWED = 1  # milliseconds by which granules of a pass may overlap, since times are rounded (002, 4.2.1.2.3)
-PARTS = ((1, 'the class'), (2, 'the group'), (3, 'the subclass'), (4, 'the version'), (8, 'the size'), (14, 'the start time'), (HEADER, 'the stop time'))
+PARTS = (
+    (1, 'the class'),
+    (2, 'the group'),
+    (3, 'the subclass'),
+    (4, 'the version'),
+    (8, 'the size'),
+    (14, 'the start time'),
+    (HEADER, 'the stop time'),
+)
 
 
 class Source(NamedTuple):
@@ -45,23 +53,32 @@ class _Span:
             self.product.close()
 
 
-def join_two(first: Product, second: Product, out: PathLike | None = None, *, identical: bool = False, force: bool = False) -> Product:
+def join_two(
+    first: Product, second: Product, out: PathLike | None = None, *, identical: bool = False, force: bool = False
+) -> Product:
     """Two products as one; `Product.join` says more."""
-    sources = [Source(name, lambda product=product: product, False)  # type: ignore[misc]
-               for name, product in (('the first', first), ('the second', second))]
+    sources = [
+        Source(name, lambda product=product: product, False)  # type: ignore[misc]
+        for name, product in (('the first', first), ('the second', second))
+    ]
     return join_sources(sources, out, identical=identical, force=force)
 
 
-def join_all(products: Iterable[Product | PathLike], out: PathLike | None = None, *, identical: bool = False, force: bool = False) -> Product:
-    """The products, or the files of these names, which follow each other, as one; in memory, or in a new file where `out`
-    names one. Files are opened as they are needed, so that there may be any number.
+def join_all(
+    products: Iterable[Product | PathLike], out: PathLike | None = None, *, identical: bool = False, force: bool = False
+) -> Product:
+    """The products, or the files of these names, which follow each other, as one; in memory, or in a new file where
+    `out` names one. Files are opened as they are needed, so that there may be any number.
 
-    Neighbours are joined first, pairs and then pairs of pairs, which copies less than joining them one after the other and
-    gives the same bytes, by the law of trees of joins (`trees-same`); where one way is refused the other may not be.
+    Neighbours are joined first, pairs and then pairs of pairs, which copies less than joining them one after the other
+    and gives the same bytes, by the law of trees of joins (`trees-same`); where one way is refused the other may not
+    be.
 
     Raises Refused: as `Product.join`; `inputs` has the names of the files at fault.
     """
-    return join_sources([_source_of(k, product) for k, product in enumerate(products)], out, identical=identical, force=force)
+    return join_sources(
+        [_source_of(k, product) for k, product in enumerate(products)], out, identical=identical, force=force
+    )
 
 
 def _source_of(k: int, product: Product | PathLike) -> Source:
@@ -72,32 +89,54 @@ def _source_of(k: int, product: Product | PathLike) -> Source:
     return Source(path, lambda: Product(path))
 
 
-def join_sources(sources: list[Source], out: PathLike | None = None, *, identical: bool = False, force: bool = False) -> Product:
+def join_sources(
+    sources: list[Source], out: PathLike | None = None, *, identical: bool = False, force: bool = False
+) -> Product:
     """As `join_all`, with names of their own."""
     if len(sources) < 2:
         raise ValueError('a join has two products at least')
-    folder = None if out is None else os.path.dirname(os.path.realpath(out))
+    tree = _Tree(len(sources), identical, out, force)
+    for source in sources:
+        tree.add(source)
+    return tree.finish()
 
-    def merge() -> None:
-        second, first = spans.pop(), spans.pop()
+
+class _Tree:
+    """Products that are joined as they come, neighbours of one length first. Each span has more sources than those
+    after it, so that few are open at a time."""
+
+    def __init__(self, count: int, identical: bool, out: PathLike | None, force: bool) -> None:
+        self.count, self.identical = count, identical
+        self.last: dict[str, Any] = {'out': out, 'force': force}
+        self.others = {'folder': None if out is None else os.path.dirname(os.path.realpath(out))}
+        self.spans: list[_Span] = []
+
+    def add(self, source: Source) -> None:
+        """The next product, joined with what stands before it while that is as long."""
+        self.spans.append(_Span((source,), source.open()))
+        while len(self.spans) > 1 and len(self.spans[-2].sources) == len(self.spans[-1].sources):
+            self._merge()
+
+    def finish(self) -> Product:
+        """All of them as one."""
+        while len(self.spans) > 1:
+            self._merge()
+        return self.spans[0].product
+
+    def _merge(self) -> None:
+        """The last two as one: where they are all there are, in the place that was asked for."""
+        second, first = self.spans.pop(), self.spans.pop()
         both = first.sources + second.sources
-        place = {'out': out, 'force': force} if len(both) == len(sources) else {'folder': folder}
-        spans.append(_Span(both, _join_spans(first, second, identical, place)))
+        place = self.last if len(both) == self.count else self.others
+        self.spans.append(_Span(both, _join_spans(first, second, self.identical, place)))
         first.close()
         second.close()
 
-    spans: list[_Span] = []  # each has more sources than those after it, so that few are open at a time
-    for source in sources:
-        spans.append(_Span((source,), source.open()))
-        while len(spans) > 1 and len(spans[-2].sources) == len(spans[-1].sources):
-            merge()
-    while len(spans) > 1:
-        merge()
-    return spans[0].product
-
 
 def _join_spans(first: _Span, second: _Span, identical: bool, place: dict[str, Any]) -> Product:
-    write = functools.partial(written, 'join' if identical else 'join_pass', None, first.product.data, second.product.data)
+    write = functools.partial(
+        written, 'join' if identical else 'join_pass', None, first.product.data, second.product.data
+    )
     try:
         with named_inputs((first.sources[0].name, first.product), (second.sources[0].name, second.product)):
             return write_product(write, **place)
@@ -124,8 +163,11 @@ def _unlike(first: Source, second: Source, identical: bool) -> Refused:
 
 def unlike_lines(first: Product, second: Product, names: tuple[str, str]) -> str:
     """The lines of the four that differ, with both values."""
-    return ', '.join(f'{name} {first.field(name)!r} of {names[0]} and {second.field(name)!r} of {names[1]}'
-                     for name in FOUR if first.field(name) != second.field(name))
+    return ', '.join(
+        f'{name} {first.field(name)!r} of {names[0]} and {second.field(name)!r} of {names[1]}'
+        for name in FOUR
+        if first.field(name) != second.field(name)
+    )
 
 
 def _fixed(product: Product) -> list[tuple[int, int, int, int]]:
@@ -144,10 +186,16 @@ def unlike_records(first: Product, second: Product, names: tuple[str, str], iden
     ours, theirs = _fixed(first), _fixed(second)
     only_times = []
     for one, other in zip(ours, theirs):
-        at = first_difference(bytes(first.data[one[2]:one[3]]), bytes(second.data[other[2]:other[3]]), not identical)
+        at = first_difference(
+            bytes(first.data[one[2] : one[3]]), bytes(second.data[other[2] : other[3]]), not identical
+        )
         if at is None:
             continue
-        if identical and first_difference(bytes(first.data[one[2]:one[3]]), bytes(second.data[other[2]:other[3]]), True) is None:
+        if (
+            identical
+            and first_difference(bytes(first.data[one[2] : one[3]]), bytes(second.data[other[2] : other[3]]), True)
+            is None
+        ):
             only_times.append(_pair_words(one, other, names, at))
             continue
         return _pair_words(one, other, names, at)
@@ -155,14 +203,19 @@ def unlike_records(first: Product, second: Product, names: tuple[str, str], iden
         longer, name, other_name = (ours, *names) if len(ours) > len(theirs) else (theirs, *names[::-1])
         class_, which, start, _ = longer[min(len(ours), len(theirs))]
         return f'{class_name(class_)} {which} of {name}, at {start}, with none beside it in {other_name}'
-    times = 'only the times of headers differ, which are those of their own product; --identical was asked for (identical=True)'
+    times = (
+        'only the times of headers differ, which are those of their own product; --identical was asked for'
+        ' (identical=True)'
+    )
     return f'{only_times[0]}; {times}' if only_times else 'other records'
 
 
 def _pair_words(one: tuple[int, ...], other: tuple[int, ...], names: tuple[str, str], at: int) -> str:
     kind, other_kind = (f'{class_name(record[0])} {record[1]}' for record in (one, other))
-    return (f'{kind} of {names[0]}, at {one[2]}, and {other_kind} of {names[1]}, at {other[2]}, '
-            f'which differ from byte {at} of the record on ({part_name(at)})')
+    return (
+        f'{kind} of {names[0]}, at {one[2]}, and {other_kind} of {names[1]}, at {other[2]}, '
+        f'which differ from byte {at} of the record on ({part_name(at)})'
+    )
 
 
 def part_name(at: int) -> str:
@@ -171,9 +224,10 @@ def part_name(at: int) -> str:
 
 
 def first_difference(one: bytes, other: bytes, ignore_times: bool) -> int | None:
-    """The first byte in which two records differ, with or without the times of their headers; None where they are the same."""
+    """The first byte in which two records differ, with or without the times of their headers; None where they are the
+    same."""
     if ignore_times:
-        one, other = (record[:TIMES.start] + bytes(len(TIMES)) + record[TIMES.stop:] for record in (one, other))
+        one, other = (record[: TIMES.start] + bytes(len(TIMES)) + record[TIMES.stop :] for record in (one, other))
     if one == other:
         return None
     return next((k for k, (a, b) in enumerate(zip(one, other)) if a != b), min(len(one), len(other)))
@@ -214,14 +268,18 @@ def _out_of_time(first: tuple[Source, ...], second: tuple[Source, ...], identica
     """By how much the second starts before the first stops, and which files these are."""
     (stops, stop), (starts, start) = _found_in(reversed(first), last_stop), _found_in(second, first_start)
     allowed = '' if identical else f', or {ALLOWED} ms before'
-    said = (f'expected {starts} to start at {stop.isoformat()} or later{allowed}, where {stops} stops, '
-            f'found {start.isoformat()}, {between(start, stop)} ms before')
+    said = (
+        f'expected {starts} to start at {stop.isoformat()} or later{allowed}, where {stops} stops, '
+        f'found {start.isoformat()}, {between(start, stop)} ms before'
+    )
     return Refused(Refusal.OUT_OF_TIME, 0, said, (stops, starts))
 
 
 def _too_large(first: _Span, second: _Span, refused: Refused) -> Refused:
-    spans = [span.sources[0].name if len(span.sources) == 1 else f'{span.sources[0].name} to {span.sources[-1].name}'
-             for span in (first, second)]
+    spans = [
+        span.sources[0].name if len(span.sources) == 1 else f'{span.sources[0].name} to {span.sources[-1].name}'
+        for span in (first, second)
+    ]
     inputs = (first.sources[-1].name, second.sources[0].name)
     return Refused(refused.number, refused.place, f'{spans[0]} with {spans[1]}: {refused.words}', inputs)
 
@@ -236,8 +294,10 @@ def notes_of_join(sources: list[Source]) -> list[str]:
         product = source.open()
         start = first_start(product)
         if stop is not None and start is not None and between(stop, start) > GAP:
-            notes.append(f'{between(stop, start)} ms are missing between {stopped}, which stops at {stop.isoformat()}, '
-                         f'and {source.name}, which starts at {start.isoformat()}')
+            notes.append(
+                f'{between(stop, start)} ms are missing between {stopped}, which stops at {stop.isoformat()}, '
+                f'and {source.name}, which starts at {start.isoformat()}'
+            )
         found = last_stop(product)
         stop, stopped = (stop, stopped) if found is None else (found, source.name)
         ends = {name: product.field(name) for name in KEPT}
@@ -246,5 +306,8 @@ def notes_of_join(sources: list[Source]) -> list[str]:
             product.close()
     differing = [name for name in KEPT if kept is not None and ends[name] != kept[name]]
     if differing:
-        notes.append(f'{", ".join(differing)} of the result are those of {sources[0].name}, not of {sources[-1].name}, as request Seven has it')
+        notes.append(
+            f'{", ".join(differing)} of the result are those of {sources[0].name}, not of {sources[-1].name}, as'
+            ' request Seven has it'
+        )
     return notes

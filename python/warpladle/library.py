@@ -1,7 +1,8 @@
 """The functions of include/warpladle.h, called in the shared library that `tools/archive` makes.
 
-Each takes Python's numbers and buffers and gives the library's answer without its first two places, or raises `Refused`. Nothing is copied: a buffer
-(bytes, a mapped file, a numpy array) is lent by its address for the time of the call, during which other threads run.
+Each takes Python's numbers and buffers and gives the library's answer without its first two places, or raises
+`Refused`. Nothing is copied: a buffer (bytes, a mapped file, a numpy array) is lent by its address for the time of the
+call, during which other threads run.
 """
 from __future__ import annotations
 
@@ -23,11 +24,22 @@ class LibraryMissing(ImportError):
 
 
 class _View(ctypes.Structure):
-    """Python's own Py_buffer: with it a read-only mapping can be lent too, which `from_buffer` of ctypes does not take."""
+    """Python's own Py_buffer: with it a read-only mapping can be lent too, which `from_buffer` of ctypes does not
+    take."""
 
-    _fields_ = [('address', ctypes.c_void_p), ('owner', ctypes.c_void_p), ('length', ctypes.c_ssize_t), ('item', ctypes.c_ssize_t),
-                ('read_only', ctypes.c_int), ('dimensions', ctypes.c_int), ('format', ctypes.c_char_p), ('shape', ctypes.c_void_p),
-                ('strides', ctypes.c_void_p), ('suboffsets', ctypes.c_void_p), ('internal', ctypes.c_void_p)]
+    _fields_ = [
+        ('address', ctypes.c_void_p),
+        ('owner', ctypes.c_void_p),
+        ('length', ctypes.c_ssize_t),
+        ('item', ctypes.c_ssize_t),
+        ('read_only', ctypes.c_int),
+        ('dimensions', ctypes.c_int),
+        ('format', ctypes.c_char_p),
+        ('shape', ctypes.c_void_p),
+        ('strides', ctypes.c_void_p),
+        ('suboffsets', ctypes.c_void_p),
+        ('internal', ctypes.c_void_p),
+    ]
 
 
 _take = ctypes.pythonapi.PyObject_GetBuffer
@@ -134,11 +146,13 @@ FUNCTIONS: dict[str, tuple[tuple[Any, ...], int]] = {
 class Watched(ctypes.Structure):
     """`wl_watch` of the header: the state of a watch, whose fields are the library's own."""
 
-    _fields_ = ([(name, ctypes.c_uint64) for name in ('got', 'have', 'at', 'count', 'declared', 'due', 'place', 'next', 'line')]
-                + [('previous', ctypes.c_uint8), ('number', ctypes.c_uint8)]
-                + [(name, ctypes.c_uint64 * 9) for name in ('totals', 'tally')]
-                + [(name, ctypes.c_uint32 * 64) for name in ('starts', 'targets', 'kinds')]
-                + [('head', ctypes.c_uint8 * 3307), ('under', ctypes.c_uint8 * 27)])
+    _fields_ = (
+        [(name, ctypes.c_uint64) for name in ('got', 'have', 'at', 'count', 'declared', 'due', 'place', 'next', 'line')]
+        + [('previous', ctypes.c_uint8), ('number', ctypes.c_uint8)]
+        + [(name, ctypes.c_uint64 * 9) for name in ('totals', 'tally')]
+        + [(name, ctypes.c_uint32 * 64) for name in ('starts', 'targets', 'kinds')]
+        + [('head', ctypes.c_uint8 * 3307), ('under', ctypes.c_uint8 * 27)]
+    )
 
 
 def places() -> list[Path]:
@@ -157,8 +171,12 @@ def _open() -> ctypes.CDLL:
             try:
                 return ctypes.CDLL(str(path))
             except OSError as error:
-                raise LibraryMissing(f'{path} cannot be loaded ({error}); tools/archive makes one for this machine') from None
-    raise LibraryMissing(f'there is no {" and no ".join(map(str, looked))}: make it with tools/archive, or name one in WARPLADLE_LIBRARY')
+                raise LibraryMissing(
+                    f'{path} cannot be loaded ({error}); tools/archive makes one for this machine'
+                ) from None
+    raise LibraryMissing(
+        f'there is no {" and no ".join(map(str, looked))}: make it with tools/archive, or name one in WARPLADLE_LIBRARY'
+    )
 
 
 def function(name: str) -> Any:

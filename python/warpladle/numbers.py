@@ -15,7 +15,8 @@ class Scaled(NamedTuple):
 
 
 class Reading(NamedTuple):
-    """What a meter shows: `kind` is 'missing', 'whole' or 'between', and `value` the number, or None where it is missing."""
+    """What a meter shows: `kind` is 'missing', 'whole' or 'between', and `value` the number, or None where it is
+    missing."""
 
     kind: str
     value: float | None
@@ -25,22 +26,22 @@ def _flat(number: Scaled | None) -> tuple[int, int, int]:
     return (0, 0, 0) if number is None else (1, number.integer, number.scale)
 
 
-def read_scaled(data: bytes, at: int = 0, width: int = 4, signed_: bool = True) -> Scaled | None:
+def read_scaled(data: bytes, at: int = 0, width: int = 4, *, is_signed: bool = True) -> Scaled | None:
     """The scaled number in the 1 + width bytes from `at` on, the scale first; `None` where it is undefined.
 
     Raises Refused: 20 past the bytes, 21 for a width or scale that cannot be.
     """
-    defined, integer, scale, _ = ask('read_scaled', data, at, width, signed_)
+    defined, integer, scale, _ = ask('read_scaled', data, at, width, is_signed)
     return Scaled(signed(integer), signed(scale)) if defined else None
 
 
-def write_scaled(number: Scaled | None, width: int = 4, signed_: bool = True) -> bytes:
+def write_scaled(number: Scaled | None, width: int = 4, *, is_signed: bool = True) -> bytes:
     """A scaled number as 1 + width bytes.
 
     Raises Refused: 21 where it does not fit.
     """
     room = bytearray(9)
-    written = ask('write_scaled', room, width, signed_, *_flat(number))[0]
+    written = ask('write_scaled', room, width, is_signed, *_flat(number))[0]
     return bytes(room[:written])
 
 

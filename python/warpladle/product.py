@@ -13,8 +13,21 @@ from typing import TYPE_CHECKING, Any, NamedTuple, Protocol, Union, overload
 
 from . import words
 from .files import Buffer, PathLike, beside, map_file, read_stream, room_of
-from .headers import (COUNT, HEADER, SIGNED, TEXT, UNSIGNED, Field, Record, RecordClass, all_fields, field, field_number,
-                      read_header, record_of)
+from .headers import (
+    COUNT,
+    HEADER,
+    SIGNED,
+    TEXT,
+    UNSIGNED,
+    Field,
+    Record,
+    RecordClass,
+    all_fields,
+    field,
+    field_number,
+    read_header,
+    record_of,
+)
 from .library import ask, signed
 from .refusal import Refusal, Refused, State
 from .times import Moment, Time, TimeLike, moment_of, time_arguments
@@ -23,7 +36,7 @@ if TYPE_CHECKING:
     import numpy
     import numpy.typing
 
-    from .picture import Picture
+    from .drawing import Picture
 
 COLUMNS = ('start', 'size', 'class', 'group', 'subclass', 'version', 'ordinal')
 ROW = [(name, 'u4') for name in COLUMNS]
@@ -77,15 +90,17 @@ class Product:
 
     A text or a path is a file's name; what has a buffer is the product's bytes (a `bytes` too: it is no name); what has
     `read` is read to its end. Every answer is the library's; a refusal is `Refused`. The bytes must not change, and the
-    file must not be cut short, while the product is in use; use `Watch` for one that still arrives. `close`, or a `with`,
-    lets go of the file. A product is pickled by its path where it has one.
+    file must not be cut short, while the product is in use; use `Watch` for one that still arrives. `close`, or a
+    `with`, lets go of the file. A product is pickled by its path where it has one.
     """
 
     def __init__(self, source: PathLike | Buffer | Readable) -> None:
         self.path: str | None = os.fspath(source) if isinstance(source, (str, os.PathLike)) else None
         self._data: Any = map_file(self.path) if self.path is not None else _bytes(source)
         self.size: int = len(self._data)
-        self.hole: int | None = None  # where the file has a hole, so that what is beyond has not come; the command sets it
+        self.hole: int | None = (
+            None  # where the file has a hole, so that what is beyond has not come; the command sets it
+        )
 
     # ---- a thing of Python
 
@@ -132,9 +147,12 @@ class Product:
         return self.records()
 
     @overload
-    def __getitem__(self, k: int) -> Record: ...
+    def __getitem__(self, k: int) -> Record:
+        ...
+
     @overload
-    def __getitem__(self, k: slice) -> list[Record]: ...
+    def __getitem__(self, k: slice) -> list[Record]:
+        ...
 
     def __getitem__(self, k: int | slice) -> Record | list[Record]:
         if isinstance(k, slice):
@@ -143,11 +161,14 @@ class Product:
 
     def _repr_html_(self) -> str:
         from .summary import html_of_product
+
         return html_of_product(self)
 
     def picture(self, suffix: str = 'svg') -> Picture:
         """The records along the bytes, and the MDRs along time: of a refused or incomplete product up to its place."""
-        from .picture import Picture, picture_of_product
+        from .drawing import Picture
+        from .picture import picture_of_product
+
         return Picture(picture_of_product(self, suffix), suffix)
 
     # ---- judged
@@ -203,7 +224,7 @@ class Product:
         Raises Refused: 1 to 17. Raises IndexError where there is no such record.
         """
         at = range(len(self))[k] * len(COLUMNS)
-        return Row(*self._row_room[at:at + len(COLUMNS)])
+        return Row(*self._row_room[at : at + len(COLUMNS)])
 
     def row_tuples(self) -> Iterator[tuple[int, ...]]:
         """The rows as tuples, in the order of `COLUMNS`; numpy is not needed for it.
@@ -238,13 +259,15 @@ class Product:
     def listing(self) -> str:
         """The records as text: their count, and a line for each with start, class, group, subclass, version and size.
 
-        It is made from the rows, since the library's own listing (`library_listing`) takes up to 65,536 bytes; the tests
-        hold each against the other.
+        It is made from the rows, since the library's own listing (`library_listing`) takes up to 65,536 bytes; the
+        tests hold each against the other.
 
         Raises Refused: 1 to 17.
         """
-        lines = ['%d %d %d %d %d %d\n' % (start, class_, group, subclass, version, size)
-                 for start, size, class_, group, subclass, version, _ in self.row_tuples()]
+        lines = [
+            '%d %d %d %d %d %d\n' % (start, class_, group, subclass, version, size)
+            for start, size, class_, group, subclass, version, _ in self.row_tuples()
+        ]
         return f'records {len(lines)}\n' + ''.join(lines)
 
     def library_listing(self) -> str:
@@ -253,17 +276,24 @@ class Product:
         Raises Refused: 23 for more than 65,536 bytes; 1 to 17.
         """
         room = bytearray(131072)
-        return room[:self._ask('listing', room)[0]].decode('ascii')
+        return room[: self._ask('listing', room)[0]].decode('ascii')
 
     # ---- asked
 
     def record(self, k: int) -> Record:
-        """Record k, counted from 0, of a product that may still arrive. The library walks to it: for many take `records`.
+        """Record k, counted from 0, of a product that may still arrive. The library walks to it: for many take
+        `records`.
 
         Raises Refused: 1 to 16; 19 where there is no such record yet.
         """
+
         def said(number: int, place: int) -> str:
-            return f'expected record {k}, found {place} records' if number == Refusal.NO_RECORD else self._words(number, place)
+            return (
+                f'expected record {k}, found {place} records'
+                if number == Refusal.NO_RECORD
+                else self._words(number, place)
+            )
+
         return record_of(ask('record', self.data, k, words=said))
 
     def records(self) -> Iterator[Record]:
@@ -286,7 +316,7 @@ class Product:
         Raises Refused: 1 to 17. Raises IndexError where there is no such record.
         """
         row = self.row(k)
-        return memoryview(self.data)[row.start + HEADER:row.start + row.size]
+        return memoryview(self.data)[row.start + HEADER : row.start + row.size]
 
     def mdr_bytes(self, group: int | None = None, subclass: int | None = None) -> numpy.typing.NDArray[numpy.uint8]:
         """The MDRs, or those of a group and subclass, as a table of bytes: a line for each, its header with it. It is a
@@ -328,7 +358,7 @@ class Product:
         for name in ('start', 'stop'):
             day, milli = parts[name + '_day'].astype('i8'), parts[name].astype('i8')
             found[name] = (DAY_ZERO + 86_400_000 * day + milli).view('M8[ms]')
-            found[name][(day == 0xffff) & (milli == 0xffffffff)] = np.datetime64('NaT')
+            found[name][(day == 0xFFFF) & (milli == 0xFFFFFFFF)] = np.datetime64('NaT')
         found.flags.writeable = False
         return found
 
@@ -345,8 +375,8 @@ class Product:
         return found
 
     def field(self, name: str) -> Value:
-        """A field of the main header: a number, a text with its padding, a time as a `datetime` in UTC, or None where it
-        is undefined. A leap second and the year 0, which a `datetime` cannot hold, come as a `Moment`.
+        """A field of the main header: a number, a text with its padding, a time as a `datetime` in UTC, or None where
+        it is undefined. A leap second and the year 0, which a `datetime` cannot hold, come as a `Moment`.
 
         Raises Refused: 1 to 6, 10, 15, 17 of the main header; 22 where there is no such field.
         """
@@ -381,7 +411,7 @@ class Product:
     def _value(self, line: Field) -> Value:
         if line.kind == TEXT:
             start, width = self._ask('text_field', line.number)
-            return bytes(self.data[start:start + width]).decode('ascii')
+            return bytes(self.data[start : start + width]).decode('ascii')
         if line.kind in (UNSIGNED, COUNT, SIGNED):
             defined, number = self._ask('number_field', line.number)
             return signed(number) if defined else None
@@ -390,8 +420,8 @@ class Product:
 
     def ground_point(self, which: str = 'start') -> GroundPoint | None:
         """The point below the satellite at the product's 'start' or 'end', as its main header has it; None where it is
-        undefined. A cut keeps both points of the whole product. A join keeps both of its first product, so that its 'end'
-        is the point where the first one ends.
+        undefined. A cut keeps both points of the whole product. A join keeps both of its first product, so that its
+        'end' is the point where the first one ends.
 
         Raises Refused: 1 to 6, 10, 15, 17 of the main header.
         """
@@ -403,9 +433,11 @@ class Product:
 
     # ---- made anew
 
-    def cut(self, first: TimeLike | None, last: TimeLike | None, out: PathLike | None = None, *, force: bool = False) -> Product:
-        """The cut to the MDRs that start in the window, both ends in: in memory, or in a new file where `out` names one.
-        It keeps the orbits and ground points of the whole product.
+    def cut(
+        self, first: TimeLike | None, last: TimeLike | None, out: PathLike | None = None, *, force: bool = False
+    ) -> Product:
+        """The cut to the MDRs that start in the window, both ends in: in memory, or in a new file where `out` names
+        one. It keeps the orbits and ground points of the whole product.
 
         Raises Refused: 25 for a window that ends before it starts; 1 to 17; 28 where the result is too large.
         """
@@ -420,15 +452,19 @@ class Product:
         write = functools.partial(written, 'cut', said, self.data, *time_arguments(ends[0]), *time_arguments(ends[1]))
         return write_product(write, out, force=force)
 
-    def join(self, other: Product, out: PathLike | None = None, *, identical: bool = False, force: bool = False) -> Product:
+    def join(
+        self, other: Product, out: PathLike | None = None, *, identical: bool = False, force: bool = False
+    ) -> Product:
         """This product and the other, which follows it, as one: two granules of a pass. With `identical` their SPHR and
-        global records must be the same in every byte, the times in their headers too, as request Seven has it. The result
-        keeps this one's ORBIT_END, SUBSAT_LATITUDE_END, SUBSAT_LONGITUDE_END and SENSING_END_THEORETICAL.
+        global records must be the same in every byte, the times in their headers too, as request Seven has it. The
+        result keeps this one's ORBIT_END, SUBSAT_LATITUDE_END, SUBSAT_LONGITUDE_END and SENSING_END_THEORETICAL.
 
         Raises Refused: 1 to 17 of this one and then of the other; 26 where they are unlike; 27 where the other starts
-        before this one stops (by more than a millisecond; with `identical` by anything); 28 where the result is too large.
+        before this one stops (by more than a millisecond; with `identical` by anything); 28 where the result is too
+        large.
         """
         from .join import join_two
+
         return join_two(self, other, out, identical=identical, force=force)
 
     def is_cut_of(self, original: Product) -> bool:
@@ -440,7 +476,8 @@ class Product:
 
     def mismatch_with(self, original: Product) -> int | None:
         """None where this is a cut of the original, else the place that shows that it is not: 0 for a line of the main
-        header, the start of a record that cannot be matched, or this one's length where one of the original's is missing.
+        header, the start of a record that cannot be matched, or this one's length where one of the original's is
+        missing.
 
         Raises Refused: 1 to 17 of the original and then of this.
         """
@@ -488,6 +525,7 @@ class named_inputs:
 
 def _verdict(product: Product) -> tuple[int, ...]:
     from .library import answer
+
     return answer('verdict', product.data)
 
 
@@ -510,11 +548,14 @@ def write_into(room: mmap.mmap, write: Callable[[Any], int]) -> None:
     """Writes the whole room."""
     count = write(room)
     if count != len(room):
-        raise RuntimeError(f'{count} bytes were written where {len(room)} were needed: what was lent has changed meanwhile')
+        raise RuntimeError(
+            f'{count} bytes were written where {len(room)} were needed: what was lent has changed meanwhile'
+        )
 
 
-def write_product(write: Callable[[Any], int], out: PathLike | None = None, *, force: bool = False,
-                  folder: PathLike | None = None) -> Product:
+def write_product(
+    write: Callable[[Any], int], out: PathLike | None = None, *, force: bool = False, folder: PathLike | None = None
+) -> Product:
     """What a writer writes, as a product: in memory, in the file `out`, or in a nameless file of the folder."""
     size = room_needed(write)
     if out is None:

@@ -101,7 +101,10 @@ MEANING = {
 }
 
 OF_A_PRODUCT = range(1, 18)
-OF_A_FILE = (*OF_A_PRODUCT, *range(29, 36))  # what a file's own bytes are refused with; the others are faults of what was asked
+OF_A_FILE = (
+    *OF_A_PRODUCT,
+    *range(29, 36),
+)  # what a file's own bytes are refused with; the others are faults of what was asked
 
 
 class Refused(Exception):
@@ -128,7 +131,8 @@ class Refused(Exception):
 
     @property
     def state(self) -> State | None:
-        """What it says of the file: incomplete for 17, refused for 1 to 16 and 29 to 35; None for a fault of what was asked."""
+        """What it says of the file: incomplete for 17, refused for 1 to 16 and 29 to 35; None for a fault of what was
+        asked."""
         if self.number == Refusal.UNFINISHED:
             return State.INCOMPLETE
         return State.REFUSED if self.number in OF_A_FILE else None

@@ -34,13 +34,15 @@ def report_lines(of: dict[str, Any]) -> list[str]:
     lines = [f'products {of["products"]}, accepted {of["accepted"]}, refused {of["products"] - of["accepted"]}']
     lines += [f'refused with {number}: {count} ({MEANING[int(number)]})' for number, count in of['refused'].items()]
     lines += [f'{name:<6}{of["records"][name]:>12} records {of["bytes"][name]:>16} bytes' for name in CLASSES[1:]]
-    lines += [f'gaps {of["gap_ms"]} ms, overlaps {of["overlap_ms"]} ms, pairs with an undefined time {of["undefined_pairs"]}']
+    lines += [
+        f'gaps {of["gap_ms"]} ms, overlaps {of["overlap_ms"]} ms, pairs with an undefined time {of["undefined_pairs"]}'
+    ]
     return lines
 
 
 class Report:
-    """Records and bytes of each class, milliseconds of gap and overlap between MDRs, and how many products were accepted and
-    refused; of at most 4,096 products."""
+    """Records and bytes of each class, milliseconds of gap and overlap between MDRs, and how many products were
+    accepted and refused; of at most 4,096 products."""
 
     def __init__(self, numbers: Iterable[int] = ()) -> None:
         given = list(numbers) or [0] * NUMBERS
@@ -84,11 +86,14 @@ class Report:
 
     def __repr__(self) -> str:
         of = self.as_dict()
-        return (f'<Report of {of["products"]} products, {of["accepted"]} accepted, {sum(of["records"].values())} records, '
-                f'{of["gap_ms"]} ms of gaps>')
+        return (
+            f'<Report of {of["products"]} products, {of["accepted"]} accepted, {sum(of["records"].values())} records, '
+            f'{of["gap_ms"]} ms of gaps>'
+        )
 
     def _repr_html_(self) -> str:
         from .summary import html_table
+
         of = self.as_dict()
         first, *lines = report_lines(of)
         return html_table([(f'{k + 1}', line) for k, line in enumerate(lines)], first)

@@ -19,8 +19,8 @@ def iso_text(value: Any) -> Any:
 
 
 def info_of(product: Product) -> dict[str, Any]:
-    """What one wants to know of a product first, by name. A product that is refused or incomplete has its refusal, and what
-    its main header says where that can be read."""
+    """What one wants to know of a product first, by name. A product that is refused or incomplete has its refusal, and
+    what its main header says where that can be read."""
     found: dict[str, Any] = {'state': product.state.value, 'bytes': product.size}
     try:
         found['records'] = product.verdict
@@ -83,8 +83,11 @@ def _point(point: list[float] | None) -> str:
 
 def html_table(lines: list[tuple[str, str]], title: str) -> str:
     """Lines of a name and a text as a table."""
-    rows = ''.join(f'<tr><th style="text-align:left">{html.escape(name)}</th><td style="text-align:left">{html.escape(text)}</td></tr>'
-                   for name, text in lines)
+    rows = ''.join(
+        f'<tr><th style="text-align:left">{html.escape(name)}</th><td'
+        f' style="text-align:left">{html.escape(text)}</td></tr>'
+        for name, text in lines
+    )
     return f'<table><caption>{html.escape(title)}</caption>{rows}</table>'
 
 

@@ -1,8 +1,9 @@
-"""Every fault of a product that a look can find, beyond the first: an aid for those who mend products, which is not proved.
+"""Every fault of a product that a look can find, beyond the first: an aid for those who mend products, which is not
+proved.
 
-The lines of the main header are held up to the library one at a time, each in a header that is sound but for it. Records are
-looked at as far as their sizes lead. Of an accepted product it finds nothing, and of a refused one the library's own refusal is
-among what it finds (the tests hold it against the vectors); beyond that nothing is promised.
+The lines of the main header are held up to the library one at a time, each in a header that is sound but for it.
+Records are looked at as far as their sizes lead. Of an accepted product it finds nothing, and of a refused one the
+library's own refusal is among what it finds (the tests hold it against the vectors); beyond that nothing is promised.
 """
 from __future__ import annotations
 
@@ -11,13 +12,36 @@ from collections.abc import Iterator
 from typing import Any, NamedTuple
 
 from . import words
-from .headers import CLASSES, COUNT, GROUPS, HEAD, HEADER, SIGNED, TEXT, UNSIGNED, Field, all_fields, write_number_line, write_text_line, write_time_line
+from .headers import (
+    CLASSES,
+    COUNT,
+    GROUPS,
+    HEAD,
+    HEADER,
+    SIGNED,
+    TEXT,
+    UNSIGNED,
+    Field,
+    all_fields,
+    write_number_line,
+    write_text_line,
+    write_time_line,
+)
 from .library import answer
 from .refusal import MEANING, Refusal
 
 LARGEST = 2**31 - 1
 POINTER = 27
-MAY_FOLLOW = {1: range(2, 9), 2: range(3, 9), 3: range(3, 9), 4: range(4, 9), 5: range(4, 9), 6: range(6, 9), 7: range(6, 9), 8: range(8, 9)}
+MAY_FOLLOW = {
+    1: range(2, 9),
+    2: range(3, 9),
+    3: range(3, 9),
+    4: range(4, 9),
+    5: range(4, 9),
+    6: range(6, 9),
+    7: range(6, 9),
+    8: range(8, 9),
+}
 MOST = 1000  # faults that are listed
 
 
@@ -104,7 +128,7 @@ def _lines(data: memoryview) -> Iterator[tuple[int, int]]:
         end = line.start + line.width + 33
         if end > len(data):
             return
-        header = _sound_header()[:line.start] + bytes(data[line.start:end]) + _sound_header()[end:]
+        header = _sound_header()[: line.start] + bytes(data[line.start : end]) + _sound_header()[end:]
         number, place, *_ = answer('arrival', header)
         if number in (Refusal.LINE, Refusal.VALUE):
             yield number, place
@@ -127,12 +151,12 @@ def _totals(data: memoryview) -> Iterator[tuple[int, int]]:
 
 
 def _is_time(data: memoryview, at: int) -> bool:
-    return answer('read_time', bytes(data[at:at + 6]), 0)[0] == 0
+    return answer('read_time', bytes(data[at : at + 6]), 0)[0] == 0
 
 
 def _times_stand(data: memoryview, start: int) -> bool:
     """Whether both times of a header are times, the start not after the stop."""
-    first, last = bytes(data[start + 8:start + 14]), bytes(data[start + 14:start + 20])
+    first, last = bytes(data[start + 8 : start + 14]), bytes(data[start + 14 : start + 20])
     if not (_is_time(data, start + 8) and _is_time(data, start + 14)):
         return False
     return b'\xff' * 6 in (first, last) or first <= last
@@ -187,7 +211,7 @@ class _Walk:
             if not 4 <= class_ <= 8 or not at + POINTER <= offset <= self.size - HEADER:
                 yield Refusal.TARGET, at
             elif offset in self.starts:
-                if bytes(self.data[offset:offset + 3]) != bytes((class_, group, subclass)):
+                if bytes(self.data[offset : offset + 3]) != bytes((class_, group, subclass)):
                     yield Refusal.POINTS_AT_OTHER, at
             elif any(start < offset < end for start, end in ends):
                 yield Refusal.POINTS_INSIDE, at
@@ -209,5 +233,7 @@ def _records(data: memoryview, size: int) -> Iterator[tuple[int, int]]:
         found.pass_by(at)
         at += step
     yield from found.pointer_faults()
-    if at == size <= len(data) and any(total is not None and found.tally.get(class_, 0) < total for class_, total in found.totals.items()):
+    if at == size <= len(data) and any(
+        total is not None and found.tally.get(class_, 0) < total for class_, total in found.totals.items()
+    ):
         yield Refusal.TOO_FEW, size

@@ -14,6 +14,7 @@ if TYPE_CHECKING:
 
 ISO = re.compile(r'(\d{4})-?(\d\d)-?(\d\d)(?:[T ]?(\d\d):?(\d\d)(?::?(\d\d)(?:[.,]?(\d+))?)?)?(Z|[+-]\d\d(?::?\d\d)?)?')
 DAY = 86_400_000  # milliseconds of a day without a leap second
+LAST_DAY = 65535
 ONE = timedelta(milliseconds=1)
 
 
@@ -103,7 +104,9 @@ def _long_text(when: Any) -> str:
             raise ValueError('NaT is no time')
         numbers = _iso_numbers(str(when))
     else:
-        raise TypeError(f'{when!r} is no time: give a text in ISO 8601, a datetime, a date, a numpy.datetime64 or a Time')
+        raise TypeError(
+            f'{when!r} is no time: give a text in ISO 8601, a datetime, a date, a numpy.datetime64 or a Time'
+        )
     return '%04d%02d%02d%02d%02d%02d%03dZ' % numbers
 
 
@@ -111,7 +114,9 @@ def _iso_numbers(when: str) -> tuple[int, ...]:
     """Year to millisecond, in UTC, of a text."""
     parts = ISO.fullmatch(when)
     if parts is None:
-        raise ValueError(f'{when!r} is no time as 2016-06-05T00:00:08Z, 2016-06-05T02:00:08.25+02:00 or 2016-06-05 is one')
+        raise ValueError(
+            f'{when!r} is no time as 2016-06-05T00:00:08Z, 2016-06-05T02:00:08.25+02:00 or 2016-06-05 is one'
+        )
     *numbers, fraction, zone = parts.groups()
     if (fraction or '')[3:].strip('0'):
         raise ValueError(f'{when} is between two milliseconds')
@@ -120,7 +125,8 @@ def _iso_numbers(when: str) -> tuple[int, ...]:
 
 
 def _in_utc(numbers: list[int], zone: str | None, when: str) -> tuple[int, ...]:
-    """Year to second with the zone's offset taken off; seconds stay, since offsets are whole minutes and one may be a leap second."""
+    """Year to second with the zone's offset taken off; seconds stay, since offsets are whole minutes and one may be a
+    leap second."""
     if zone is None or zone == 'Z' or zone[1:].strip('0:') == '':
         return tuple(numbers)
     hours, minutes = int(zone[1:3]), int(zone[3:].lstrip(':') or 0)
@@ -163,7 +169,8 @@ def day_length(day: int) -> int:
 
 
 def between(first: Time, second: Time) -> int:
-    """The milliseconds from the first to the second, leap seconds counted; negative where the second is before the first."""
+    """The milliseconds from the first to the second, leap seconds counted; negative where the second is before the
+    first."""
     if second.day < first.day:
         return -between(second, first)
     return sum(map(day_length, range(first.day, second.day))) + second.milli - first.milli
@@ -176,17 +183,22 @@ def _millis(length: timedelta) -> int:
 
 
 def _moved(time: Time, millis: int) -> Time:
-    """The time so many milliseconds later."""
-    day, milli = time.day, time.milli + millis
-    while milli < 0 and day > 0:
-        day -= 1
-        milli += day_length(day)
-    while day < 65535 and milli >= day_length(day):
+    """The time so many milliseconds later, or earlier."""
+    day, milli = _back(time.day, time.milli + millis)
+    while day < LAST_DAY and milli >= day_length(day):
         milli -= day_length(day)
         day += 1
     if not 0 <= milli < day_length(day):
         raise OverflowError('a time is of 2000-01-01 to 2179-06-06')
     return Time(day, milli)
+
+
+def _back(day: int, milli: int) -> tuple[int, int]:
+    """The same time with a millisecond of 0 or more, as far as there are days before."""
+    while milli < 0 and day > 0:
+        day -= 1
+        milli += day_length(day)
+    return day, milli
 
 
 # ---- as the library has them

@@ -22,8 +22,8 @@ class Waiting(NamedTuple):
 
 
 class Watch(io.RawIOBase):
-    """A watch over an arrival, of some four kilobytes however long the product is. It is fed the parts as they come, or is
-    written to as a file: `shutil.copyfileobj(download, Watch())`."""
+    """A watch over an arrival, of some four kilobytes however long the product is. It is fed the parts as they come, or
+    is written to as a file: `shutil.copyfileobj(download, Watch())`."""
 
     def __init__(self) -> None:
         super().__init__()
@@ -49,12 +49,15 @@ class Watch(io.RawIOBase):
         if number == Refusal.BEYOND:
             return f'expected {place} bytes, as declared, found {self.fed} so far'
         if number == Refusal.TOO_MANY_POINTERS:
-            return 'a watch of a stream follows 64 pointer records, and this is the 65th; `check` judges the product once it has come'
+            return (
+                'a watch of a stream follows 64 pointer records, and this is the 65th; `check` judges the product once'
+                ' it has come'
+            )
         return words.of_product(self._head)(number, place) if number <= Refusal.BYTES_LEFT else ''
 
     def _note(self, part: memoryview) -> None:
         self.fed += len(part)
-        self._head += part[:HEAD - len(self._head)]
+        self._head += part[: HEAD - len(self._head)]
 
     @property
     def declared(self) -> int | None:

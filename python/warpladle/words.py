@@ -1,6 +1,7 @@
 """What was expected and what was found, in words, of a refusal of a product.
 
-Nothing is judged here: the library has given the number and the place, and these sentences quote the bytes that stand there.
+Nothing is judged here: the library has given the number and the place, and these sentences quote the bytes that stand
+there.
 """
 from __future__ import annotations
 
@@ -8,35 +9,74 @@ import struct
 from collections.abc import Callable, Iterator
 from typing import Any
 
-from .headers import (CLASSES, COUNT, HEAD, HEADER, LONG_TIME, SIGNED, TEXT, TIME, UNSIGNED, Field, all_fields, class_name, field, field_number,
-                      group_name)
+from .headers import (
+    CLASSES,
+    COUNT,
+    HEAD,
+    HEADER,
+    LONG_TIME,
+    SIGNED,
+    TEXT,
+    TIME,
+    UNSIGNED,
+    Field,
+    all_fields,
+    class_name,
+    field,
+    field_number,
+    group_name,
+)
 from .library import answer
 from .refusal import MEANING, Refusal
 from .times import Time
 
-KINDS = {TEXT: 'text of bytes 32 to 126', UNSIGNED: 'an unsigned number or x', COUNT: 'an unsigned number', SIGNED: 'a number or x',
-         TIME: 'a time YYYYMMDDHHMMSSZ or x', LONG_TIME: 'a time YYYYMMDDHHMMSSmmmZ or x'}
-MAY_FOLLOW = {0: 'MPHR', 1: 'SPHR to MDR', 2: 'IPR to MDR', 3: 'IPR to MDR', 4: 'GEADR to MDR', 5: 'GEADR to MDR', 6: 'VEADR to MDR',
-              7: 'VEADR to MDR', 8: 'MDR'}
-UNDEFINED = (0xffff, 0xffffffff)
+KINDS = {
+    TEXT: 'text of bytes 32 to 126',
+    UNSIGNED: 'an unsigned number or x',
+    COUNT: 'an unsigned number',
+    SIGNED: 'a number or x',
+    TIME: 'a time YYYYMMDDHHMMSSZ or x',
+    LONG_TIME: 'a time YYYYMMDDHHMMSSmmmZ or x',
+}
+MAY_FOLLOW = {
+    0: 'MPHR',
+    1: 'SPHR to MDR',
+    2: 'IPR to MDR',
+    3: 'IPR to MDR',
+    4: 'GEADR to MDR',
+    5: 'GEADR to MDR',
+    6: 'VEADR to MDR',
+    7: 'VEADR to MDR',
+    8: 'MDR',
+}
+UNDEFINED = (0xFFFF, 0xFFFFFFFF)
 # what a file begins with that is no product, and what it then is
-BEGINNINGS = ((b'<!doctype', 'HTML, as a portal or a server sends in place of a file'), (b'<html', 'HTML, as a portal or a server sends in place of a file'),
-              (b'<?xml', 'XML'), (b'\x1f\x8b', 'gzip: unpack it with gunzip'), (b'bzh', 'bzip2: unpack it with bunzip2'),
-              (b'pk\x03\x04', 'a zip archive: unpack it first'), (b'\xfd7zxz', 'xz: unpack it with unxz'), (b'(\xb5/\xfd', 'zstd: unpack it first'),
-              (b'\x89hdf', 'HDF5 or netCDF-4, not the native format'), (b'cdf', 'netCDF, not the native format'), (b'%pdf', 'a PDF'),
-              (b'product_name', 'the lines of a main header without the 20 bytes of record header before them'))
+BEGINNINGS = (
+    (b'<!doctype', 'HTML, as a portal or a server sends in place of a file'),
+    (b'<html', 'HTML, as a portal or a server sends in place of a file'),
+    (b'<?xml', 'XML'),
+    (b'\x1f\x8b', 'gzip: unpack it with gunzip'),
+    (b'bzh', 'bzip2: unpack it with bunzip2'),
+    (b'pk\x03\x04', 'a zip archive: unpack it first'),
+    (b'\xfd7zxz', 'xz: unpack it with unxz'),
+    (b'(\xb5/\xfd', 'zstd: unpack it first'),
+    (b'\x89hdf', 'HDF5 or netCDF-4, not the native format'),
+    (b'cdf', 'netCDF, not the native format'),
+    (b'%pdf', 'a PDF'),
+    (b'product_name', 'the lines of a main header without the 20 bytes of record header before them'),
+)
 
 Words = Callable[[int, int], str]
 
 
 def _text(data: Any, start: int, length: int) -> str:
-    return repr(bytes(data[start:start + length]))[1:]
+    return repr(bytes(data[start : start + length]))[1:]
 
 
 def value_text(data: Any, name: str) -> str:
     """The value of a field as it stands, whatever the product."""
     line = field(field_number(name))
-    return bytes(data[line.value_start:line.value_start + line.width]).decode('latin-1').strip()
+    return bytes(data[line.value_start : line.value_start + line.width]).decode('latin-1').strip()
 
 
 def declared(data: Any) -> int:
@@ -109,7 +149,10 @@ def record_words(data: Any, start: int) -> str:
     """The record that starts there in words, with its place and times."""
     class_, group, subclass, version, size = header_at(data, start)
     begin, end = times_at(data, start)
-    return f'{which_at(data, start)} at {start} ({size} bytes, group {group_name(group)}, subclass {subclass}, version {version}, {begin} to {end})'
+    return (
+        f'{which_at(data, start)} at {start} ({size} bytes, group {group_name(group)}, subclass {subclass}, version'
+        f' {version}, {begin} to {end})'
+    )
 
 
 def what_it_is(data: Any) -> str | None:
@@ -142,8 +185,10 @@ def _line(data: Any, place: int) -> str:
 
 def _value(data: Any, place: int) -> str:
     line = line_at(place)
-    found = bytes(data[place:place + line.width])
-    is_left = line.kind in (UNSIGNED, COUNT, SIGNED) and found != found.rstrip() and found.strip().lstrip(b'+-').isdigit()
+    found = bytes(data[place : place + line.width])
+    is_left = (
+        line.kind in (UNSIGNED, COUNT, SIGNED) and found != found.rstrip() and found.strip().lstrip(b'+-').isdigit()
+    )
     hint = '; digits stand at the right, with spaces before them' if is_left else ''
     return f'expected {KINDS[line.kind]} for {line.name}, found {_text(data, place, line.width)}{hint}'
 
@@ -154,8 +199,10 @@ def _size(data: Any, _: int) -> str:
 
 def _totals(data: Any, _: int) -> str:
     totals = [value_text(data, 'TOTAL_' + name) for name in CLASSES[1:]]
-    return (f'expected TOTAL_MPHR 1, TOTAL_SPHR 0 or 1 and their sum in TOTAL_RECORDS, found totals {", ".join(totals)} '
-            f'and TOTAL_RECORDS {value_text(data, "TOTAL_RECORDS")}')
+    return (
+        f'expected TOTAL_MPHR 1, TOTAL_SPHR 0 or 1 and their sum in TOTAL_RECORDS, found totals {", ".join(totals)} '
+        f'and TOTAL_RECORDS {value_text(data, "TOTAL_RECORDS")}'
+    )
 
 
 def _left(data: Any, place: int) -> str:
@@ -171,8 +218,10 @@ def _unknown(data: Any, place: int) -> str:
 def _order(data: Any, place: int) -> str:
     *_, (_, before, _) = walk(data, place)
     here = data[place]
-    return (f'expected {MAY_FOLLOW[before]} after a record of class {before} ({class_name(before)}), '
-            f'found class {here} ({class_name(here)})')
+    return (
+        f'expected {MAY_FOLLOW[before]} after a record of class {before} ({class_name(before)}), '
+        f'found class {here} ({class_name(here)})'
+    )
 
 
 def _record_size(data: Any, place: int) -> str:
@@ -183,7 +232,10 @@ def _record_size(data: Any, place: int) -> str:
 
 def _record_times(data: Any, place: int) -> str:
     start, stop = times_at(data, place)
-    return f'expected two times, the start not after the stop, found start {start}, stop {stop}, in the header of {which_at(data, place)}'
+    return (
+        f'expected two times, the start not after the stop, found start {start}, stop {stop}, in the header of'
+        f' {which_at(data, place)}'
+    )
 
 
 def _too_many(data: Any, place: int) -> str:
@@ -193,15 +245,20 @@ def _too_many(data: Any, place: int) -> str:
 
 def _bad_target(data: Any, place: int) -> str:
     class_, _, _, offset = target_at(data, place)
-    return f'expected a target of class 4 to 8 at {place + 27} to {declared(data) - HEADER}, found class {class_} at {offset}'
+    return (
+        f'expected a target of class 4 to 8 at {place + 27} to {declared(data) - HEADER}, found class {class_} at'
+        f' {offset}'
+    )
 
 
 def _inside(data: Any, place: int) -> str:
     offset = target_at(data, place)[3]
     *_, (start, class_, size) = walk(data, offset)
     inside = f'the {class_name(class_)} that starts at {start} ({size} bytes), {offset - start} after its start'
-    return (f'expected a record that starts at {offset}, where the pointer points, found the middle of {inside}; '
-            f'the next record starts at {start + size}')
+    return (
+        f'expected a record that starts at {offset}, where the pointer points, found the middle of {inside}; '
+        f'the next record starts at {start + size}'
+    )
 
 
 def _other(data: Any, place: int) -> str:
@@ -212,8 +269,11 @@ def _other(data: Any, place: int) -> str:
 
 def _too_few(data: Any, place: int) -> str:
     tally = _tally(data, place)
-    short = [f'{value_text(data, "TOTAL_" + CLASSES[c])} records of class {c} (TOTAL_{CLASSES[c]}), found {tally[c]}'
-             for c in range(1, 9) if tally[c] < int(value_text(data, 'TOTAL_' + CLASSES[c]))]
+    short = [
+        f'{value_text(data, "TOTAL_" + CLASSES[c])} records of class {c} (TOTAL_{CLASSES[c]}), found {tally[c]}'
+        for c in range(1, 9)
+        if tally[c] < int(value_text(data, 'TOTAL_' + CLASSES[c]))
+    ]
     return 'expected ' + '; '.join(short)
 
 
@@ -227,14 +287,32 @@ def _unfinished(data: Any, place: int) -> str:
 
 
 def _profile(data: Any, place: int) -> str:
-    viadr, mdr = 'a VIADR of group 0, subclass 0, version 1 or 2', 'an MDR of group 0, subclass 0 to 4, version 1, or a dummy'
+    viadr, mdr = (
+        'a VIADR of group 0, subclass 0, version 1 or 2',
+        'an MDR of group 0, subclass 0 to 4, version 1, or a dummy',
+    )
     return f'expected {viadr if data[place] == 7 else mdr}, found {kind_at(data, place)}'
 
 
 SENTENCES: dict[int, Callable[[Any, int], str]] = {
-    1: _first_header, 2: _line, 3: _value, 4: _size, 5: _totals, 6: _left, 7: _unknown, 8: _order, 9: _record_size,
-    10: _record_times, 11: _too_many, 12: _bad_target, 13: _inside, 14: _other, 15: _too_few, 16: _beyond,
-    17: _unfinished, 29: _profile,
+    1: _first_header,
+    2: _line,
+    3: _value,
+    4: _size,
+    5: _totals,
+    6: _left,
+    7: _unknown,
+    8: _order,
+    9: _record_size,
+    10: _record_times,
+    11: _too_many,
+    12: _bad_target,
+    13: _inside,
+    14: _other,
+    15: _too_few,
+    16: _beyond,
+    17: _unfinished,
+    29: _profile,
 }
 
 
@@ -260,7 +338,9 @@ def humidity(data: Any) -> Words:
         31: lambda place: f'expected 0 segments or more, found {number_at(place)}',
         32: lambda place: f'expected a line and a column of 1 to 80, found {number_at(place)}',
         33: lambda place: f'expected 1 block or more in a segment, found {number_at(place)}',
-        34: lambda place: f'expected the rest of a segment header or a block, found the end of the file after {place} bytes',
+        34: lambda place: (
+            f'expected the rest of a segment header or a block, found the end of the file after {place} bytes'
+        ),
         35: lambda place: f'expected the end of the file after {place} bytes, as its segments say, found {len(view)}',
     }
 

@@ -1,4 +1,5 @@
-"""Work in processes of its own: a file that is cut short while it is mapped ends one of them (SIGBUS), and not the command."""
+"""Work in processes of its own: a file that is cut short while it is mapped ends one of them (SIGBUS), and not the
+command."""
 from __future__ import annotations
 
 import os
@@ -6,6 +7,7 @@ import pickle
 import signal
 import sys
 from collections.abc import Callable, Iterator, Sequence
+from contextlib import ExitStack
 from typing import Any, NamedTuple, NoReturn
 
 ENDINGS = (signal.SIGINT, signal.SIGTERM, signal.SIGHUP)
@@ -25,7 +27,8 @@ def flush_output() -> None:
 
 
 class Worker:
-    """A process to which items are sent, one at a time, and which gives the function's result of each. It begins with the first."""
+    """A process to which items are sent, one at a time, and which gives the function's result of each. It begins with
+    the first."""
 
     def __init__(self, function: Callable[[Any], Any]) -> None:
         self.function = function
@@ -51,7 +54,8 @@ class Worker:
         self.results = os.fdopen(from_child, 'rb')
 
     def receive(self) -> Any:
-        """The result of the item that was sent; of one that ended the process `Died`, and the next item begins another."""
+        """The result of the item that was sent; of one that ended the process `Died`, and the next item begins
+        another."""
         try:
             is_raised, value = pickle.load(self.results)
         except (EOFError, pickle.UnpicklingError):
@@ -80,14 +84,19 @@ class Worker:
 def _send(pipe: int, value: Any) -> None:
     data = memoryview(pickle.dumps(value))
     while data:
-        data = data[os.write(pipe, data):]
+        data = data[os.write(pipe, data) :]
+
+
+def _let_signals_end() -> None:
+    """Signals end this process at once: there is nothing to take away."""
+    for ending in ENDINGS:
+        signal.signal(ending, signal.SIG_DFL)
 
 
 def _serve(from_parent: int, to_parent: int, function: Callable[[Any], Any]) -> NoReturn:
     """In the child: the result of each item, or what it raised, until no more come."""
     try:
-        for ending in ENDINGS:
-            signal.signal(ending, signal.SIG_DFL)
+        _let_signals_end()
         with os.fdopen(from_parent, 'rb') as items:
             while True:
                 item = pickle.load(items)
@@ -103,20 +112,22 @@ def _serve(from_parent: int, to_parent: int, function: Callable[[Any], Any]) -> 
 
 
 def map_in_workers(function: Callable[[Any], Any], items: Sequence[Any], jobs: int = 1) -> Iterator[Any]:
-    """The function's result of each item, in their order, by so many processes; `Died` of an item that ended its process."""
-    workers = [Worker(function) for _ in range(min(jobs, len(items)))]
-    try:
+    """The function's result of each item, in their order, by so many processes; `Died` of an item that ended its
+    process."""
+    with ExitStack() as stack:
+        workers = [Worker(function) for _ in range(min(jobs, len(items)))]
         for worker, item in zip(workers, items):
+            stack.callback(worker.end)
             worker.send(item)
-        for k in range(len(items)):
-            worker = workers[k % len(workers)]
-            result = worker.receive()
-            if k + len(workers) < len(items):
-                worker.send(items[k + len(workers)])
-            yield result
-    finally:
-        for worker in workers:
-            worker.end()
+        yield from (_next(workers[k % len(workers)], items, k + len(workers)) for k in range(len(items)))
+
+
+def _next(worker: Worker, items: Sequence[Any], following: int) -> Any:
+    """What a worker has done; it goes on with the item of this number, if there is one."""
+    result = worker.receive()
+    if following < len(items):
+        worker.send(items[following])
+    return result
 
 
 def run_in_child(call: Callable[[], int]) -> int | Died:

@@ -1,4 +1,5 @@
-"""The command `warpladle`: a module for each of its commands, which says what it takes (`add_arguments`) and does it (`run`)."""
+"""The command `warpladle`: a module for each of its commands, which says what it takes (`add_arguments`) and does it
+(`run`)."""
 from __future__ import annotations
 
 import argparse
@@ -40,8 +41,10 @@ COMMANDS = {
     'help': 'Show the help of a command.',
 }
 ABOUT = 'EPS native products, judged, listed, cut and joined by a proved library.'
-STATUS = ('Exit status: 0 all is whole, or yes; 1 something is refused, or no; 2 a file cannot be read or written, bad usage, or a '
-          'question that has no answer; 3 something is incomplete and nothing is refused.')
+STATUS = (
+    'Exit status: 0 all is whole, or yes; 1 something is refused, or no; 2 a file cannot be read or written, bad usage,'
+    ' or a question that has no answer; 3 something is incomplete and nothing is refused.'
+)
 PIPE_CLOSED = 141  # as a shell says of a program that SIGPIPE ended
 SIGNALLED = 128
 
@@ -62,7 +65,9 @@ def module_of(name: str) -> Any:
 def parser_of(name: str) -> argparse.ArgumentParser:
     """What a command takes."""
     module = module_of(name)
-    parser = argparse.ArgumentParser(f'warpladle {name}', description=f'{COMMANDS[name]} {getattr(module, "MORE", "")}'.strip(), epilog=STATUS)
+    parser = argparse.ArgumentParser(
+        f'warpladle {name}', description=f'{COMMANDS[name]} {getattr(module, "MORE", "")}'.strip(), epilog=STATUS
+    )
     parser.set_defaults(json=False, quiet=False)
     module.add_arguments(parser)
     return parser
@@ -74,7 +79,12 @@ def help_text() -> str:
     lines = ['usage: warpladle COMMAND ..', '', *textwrap.wrap(ABOUT, width), '', 'commands:']
     for name, text in COMMANDS.items():
         lines += textwrap.wrap(text, width, initial_indent=f'    {name:<12}', subsequent_indent=' ' * 16)
-    lines += ['', *textwrap.wrap('`warpladle help COMMAND` says what a command takes, `warpladle --version` which this is. ' + STATUS, width)]
+    lines += [
+        '',
+        *textwrap.wrap(
+            '`warpladle help COMMAND` says what a command takes, `warpladle --version` which this is. ' + STATUS, width
+        ),
+    ]
     return '\n'.join(lines) + '\n'
 
 
@@ -89,7 +99,11 @@ def read_words(words: list[str]) -> tuple[str, argparse.Namespace] | int:
         return Status.FINE
     if name not in COMMANDS:
         near = difflib.get_close_matches(name, COMMANDS, 1)
-        what = f"there is no command {name!r}{f'; did you mean {near[0]}?' if near else ''}" if name else 'a command is missing'
+        what = (
+            f"there is no command {name!r}{f'; did you mean {near[0]}?' if near else ''}"
+            if name
+            else 'a command is missing'
+        )
         raise BadUsage(f'{what}; `warpladle help` lists them')
     if name == 'help':
         words = ['help', *words[1:2]]
@@ -133,7 +147,10 @@ def main(words: list[str] | None = None) -> int:
 
 def run_safely(name: str, args: argparse.Namespace) -> int:
     """A command's status: in a process of its own where it maps a large file, which someone may cut short meanwhile."""
-    inputs = needs_child(args)
+    try:
+        inputs = needs_child(args)
+    except OSError as error:  # of a list of names
+        return Output(args).tell_error(error)
     if not inputs:
         return run_told(name, args)
     status = run_in_child(lambda: run_child(name, args))
@@ -164,7 +181,8 @@ def run_child(name: str, args: argparse.Namespace) -> int:
 
 def run_told(name: str, args: argparse.Namespace) -> int:
     """A command's status; what went wrong is told in words, or for a program."""
-    from ..picture import NoMatplotlib
+    from ..drawing import NoMatplotlib
+
     output = Output(args)
     try:
         return int(module_of(name).run(args, output))

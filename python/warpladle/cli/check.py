@@ -21,8 +21,14 @@ NAMES = ('PRODUCT_NAME', 'SENSING_START', 'SENSING_END')
 def add_arguments(parser: argparse.ArgumentParser) -> None:
     """What it takes."""
     add_judge_arguments(parser)
-    parser.add_argument('--all', action='store_true',
-                        help='go on after a refusal, as far as the sizes lead, and list what else would be refused; an aid, which is not proved')
+    parser.add_argument(
+        '--all',
+        action='store_true',
+        help=(
+            'go on after a refusal, as far as the sizes lead, and list what else would be refused; an aid, which is not'
+            ' proved'
+        ),
+    )
 
 
 def add_judge_arguments(parser: argparse.ArgumentParser) -> None:
@@ -43,7 +49,9 @@ def count_records(product: Product) -> int:
     return product.verdict
 
 
-def judge_files(args: argparse.Namespace, output: Output, judge: Callable[[Product], int], is_all: bool = False) -> Status:
+def judge_files(
+    args: argparse.Namespace, output: Output, judge: Callable[[Product], int], is_all: bool = False
+) -> Status:
     """A line for each file; the worst that was seen."""
     names = named_files(args)
     function('verdict')  # a library that is missing is told once, and here
@@ -64,7 +72,9 @@ def in_turn(function: Callable[..., Any], names: list[str]) -> Iterator[Any]:
         worker.end()
 
 
-def judge_file(name: str, *, judge: Callable[[Product], int], sparse: bool, is_json: bool, is_all: bool, may_map: bool) -> Any:
+def judge_file(
+    name: str, *, judge: Callable[[Product], int], sparse: bool, is_json: bool, is_all: bool, may_map: bool
+) -> Any:
     """What is said of a file: its count and size, with more for a program; or its refusal; or why it cannot be read."""
     try:
         product = open_input(name, sparse=sparse, read_below=READ_SOON, may_map=may_map)
@@ -78,12 +88,18 @@ def judge_file(name: str, *, judge: Callable[[Product], int], sparse: bool, is_j
 
 def _more(product: Product) -> dict[str, Any]:
     from ..summary import iso_text
+
     return {name.lower(): str(iso_text(product.field(name)) or '').strip() or None for name in NAMES}
 
 
 def _also(product: Product, refused: Refused) -> list[dict[str, Any]]:
     from ..survey import find_faults
-    return [fault.as_dict() for fault in find_faults(product.data) if (fault.number, fault.place) != (refused.number, refused.place)]
+
+    return [
+        fault.as_dict()
+        for fault in find_faults(product.data)
+        if (fault.number, fault.place) != (refused.number, refused.place)
+    ]
 
 
 def tell(output: Output, name: str, result: Any) -> Status:

@@ -6,7 +6,10 @@ from typing import Any
 
 from .output import Output, Status
 
-MORE = "For bash: eval \"$(warpladle completion bash)\". For zsh the same with zsh, for fish: warpladle completion fish | source."
+MORE = (
+    "For bash: eval \"$(warpladle completion bash)\". For zsh the same with zsh, for fish: warpladle completion fish |"
+    " source."
+)
 BASH = '''_warpladle() {
     local word="${COMP_WORDS[COMP_CWORD]}" command="${COMP_WORDS[1]}" words=
     if [ "$COMP_CWORD" -eq 1 ]; then
@@ -37,11 +40,16 @@ def add_arguments(parser: argparse.ArgumentParser) -> None:
 def run(args: argparse.Namespace, output: Output) -> Status:
     """The script."""
     from . import COMMANDS
+
     given: dict[str, Any] = {'commands': ' '.join(COMMANDS)}
     options = {name: _options(name) for name in COMMANDS}
     if args.shell == 'fish':
-        given['cases'] = '\n'.join(f'complete -c warpladle -n "__fish_seen_subcommand_from {name}" -l {option[2:]}'
-                                   for name, found in options.items() for option in found if option.startswith('--'))
+        given['cases'] = '\n'.join(
+            f'complete -c warpladle -n "__fish_seen_subcommand_from {name}" -l {option[2:]}'
+            for name, found in options.items()
+            for option in found
+            if option.startswith('--')
+        )
         print(FISH % given, end='')
         return Status.FINE
     given['cases'] = '\n'.join(f'    {name}) words="{" ".join(found)}" ;;' for name, found in options.items())
@@ -51,4 +59,5 @@ def run(args: argparse.Namespace, output: Output) -> Status:
 
 def _options(name: str) -> list[str]:
     from . import parser_of
+
     return [option for action in parser_of(name)._actions for option in action.option_strings]

@@ -40,10 +40,16 @@ def add_json(parser: argparse.ArgumentParser) -> None:
 
 def add_sparse(parser: argparse.ArgumentParser) -> None:
     """--sparse."""
-    parser.add_argument('--sparse', action='store_true', help='holes of a file are zeros that have come, not bytes that are still to come')
+    parser.add_argument(
+        '--sparse',
+        action='store_true',
+        help='holes of a file are zeros that have come, not bytes that are still to come',
+    )
 
 
-def add_file(parser: argparse.ArgumentParser, name: str = 'file', text: str = 'a product, or - for standard input') -> None:
+def add_file(
+    parser: argparse.ArgumentParser, name: str = 'file', text: str = 'a product, or - for standard input'
+) -> None:
     """One file to read."""
     parser.add_argument(name, metavar=name.upper(), help=text)
 
@@ -63,8 +69,15 @@ def add_out(parser: argparse.ArgumentParser) -> None:
 def add_files(parser: argparse.ArgumentParser, text: str) -> None:
     """Many files to read."""
     parser.add_argument('files', nargs='*', metavar='FILE', help=text)
-    parser.add_argument('-r', '--recursive', action='store_true', help='of a folder take all files in it and in its folders, but for hidden ones')
-    parser.add_argument('--files-from', metavar='LIST', help='a file with more names, a line each, or - for standard input')
+    parser.add_argument(
+        '-r',
+        '--recursive',
+        action='store_true',
+        help='of a folder take all files in it and in its folders, but for hidden ones',
+    )
+    parser.add_argument(
+        '--files-from', metavar='LIST', help='a file with more names, a line each, or - for standard input'
+    )
     parser.add_argument('-0', '--null', action='store_true', help='the names in LIST end in a zero byte, not in a line')
 
 
@@ -100,7 +113,14 @@ def some_seconds(text: str) -> float:
 
 
 def named_files(args: argparse.Namespace) -> list[str]:
-    """All files that were named: on the command line, in a list, in folders."""
+    """All files that were named: on the command line, in a list, in folders. A list is read once."""
+    if 'named' not in args:
+        args.named = _find_files(args)
+    found: list[str] = args.named
+    return found
+
+
+def _find_files(args: argparse.Namespace) -> list[str]:
     names = [*args.files, *(_listed(args) if args.files_from is not None else ())]
     if not names:
         raise BadUsage('no file is named')
@@ -121,15 +141,19 @@ def _listed(args: argparse.Namespace) -> list[str]:
 def _in_folder(folder: str) -> Iterator[str]:
     for path, folders, names in os.walk(folder):
         folders[:] = sorted(name for name in folders if not name.startswith('.'))
-        yield from (os.path.join(path, name) for name in sorted(names)
-                    if not name.startswith('.') and os.path.isfile(os.path.join(path, name)))
+        yield from (
+            os.path.join(path, name)
+            for name in sorted(names)
+            if not name.startswith('.') and os.path.isfile(os.path.join(path, name))
+        )
 
 
 def needs_child(args: argparse.Namespace) -> dict[str, int]:
-    """The files of one command that are large enough to be mapped, with their sizes: while they are mapped a process of its own
-    reads them. Commands over many files have their own processes."""
+    """The files of a command that are large enough to be mapped, with their sizes: while they are mapped a process of
+    its own reads them. Commands that judge file after file have their own."""
     names = [value for name in INPUTS for value in [args.__dict__.get(name)] if isinstance(value, str)]
-    names += args.files if args.__dict__.get('identical') is not None else []
+    if args.__dict__.get('is_guarded'):
+        names += named_files(args)
     found = {}
     for name in names:
         if name != STANDARD and os.path.isfile(name) and os.stat(name).st_size >= READ_WHOLE:
@@ -141,8 +165,8 @@ def needs_child(args: argparse.Namespace) -> dict[str, int]:
 
 
 class _Judge:
-    """Whether what has come of a product is refused for good: by a watch, and beyond 64 pointers by the arrival judge, which is
-    asked as often as what has come has doubled."""
+    """Whether what has come of a product is refused for good: by a watch, and beyond 64 pointers by the arrival judge,
+    which is asked as often as what has come has doubled."""
 
     def __init__(self) -> None:
         self.watch: Watch | None = Watch()
@@ -165,12 +189,16 @@ class _Judge:
 
 def is_no_humidity_file(data: bytearray, part: bytes) -> bool:
     """Whether every longer file that begins so is refused too."""
-    return len(data) - len(part) < 642 <= len(data) and answer('uth', data, bytearray(), bytearray())[0] not in (0, Refusal.ROOM, Refusal.UTH_CUT)
+    return len(data) - len(part) < 642 <= len(data) and answer('uth', data, bytearray(), bytearray())[0] not in (
+        0,
+        Refusal.ROOM,
+        Refusal.UTH_CUT,
+    )
 
 
 def open_input(name: str, *, sparse: bool = False, read_below: int = READ_WHOLE, may_map: bool = True) -> Product:
-    """A product to be read: a file, read or from a size on mapped, up to where it has surely come; or standard input, a pipe or a
-    device, as much as comes up to a refusal. Raises TooLarge for a file that is to be mapped and may not."""
+    """A product to be read: a file, read or from a size on mapped, up to where it has surely come; or standard input, a
+    pipe or a device, as much as comes up to a refusal. Raises TooLarge for a file that is to be mapped and may not."""
     if name == STANDARD:
         if name not in _kept:
             with told_of('standard input'):
@@ -190,7 +218,9 @@ def open_input(name: str, *, sparse: bool = False, read_below: int = READ_WHOLE,
 def _open_file(name: str, handle: int, about: os.stat_result, sparse: bool, is_large: bool, may_map: bool) -> Product:
     if is_large and not may_map:
         raise TooLarge(name)
-    come = about.st_size if sparse else surely_come(handle, about)  # before it is read: a hole that is filled later has not been
+    come = (
+        about.st_size if sparse else surely_come(handle, about)
+    )  # before it is read: a hole that is filled later has not been
     data = mmap.mmap(handle, 0, access=mmap.ACCESS_READ) if is_large else read_file(name, handle, about.st_size)
     product = _named(Product(data), name)
     return product if come == about.st_size else _before_hole(product, come)
@@ -202,7 +232,8 @@ def _named(product: Product, name: str) -> Product:
 
 
 def _before_hole(product: Product, come: int) -> Product:
-    """The part of a product that has come, where its file has a hole. One that is accepted so far has bytes beyond its end."""
+    """The part of a product that has come, where its file has a hole. One that is accepted so far has bytes beyond its
+    end."""
     part = _named(Product(memoryview(product.data)[:come]), product.path or '')
     part.hole = come
     return product if answer('verdict', part.data)[0] == 0 else part
@@ -215,7 +246,9 @@ def read_input(name: str, is_over: Callable[[bytearray, bytes], bool] = lambda d
             return read_stream(sys.stdin.buffer.raw, is_over)  # type: ignore[attr-defined]
     with told_of(name), open(name, 'rb', buffering=0) as file:
         about = os.fstat(file.fileno())
-        return read_file(name, file.fileno(), about.st_size) if stat.S_ISREG(about.st_mode) else read_stream(file, is_over)
+        return (
+            read_file(name, file.fileno(), about.st_size) if stat.S_ISREG(about.st_mode) else read_stream(file, is_over)
+        )
 
 
 def is_stream(name: str) -> bool:
@@ -229,4 +262,3 @@ def output_path(args: argparse.Namespace) -> str | None:
         return None
     refuse_to_overwrite(args.out, force=args.force)
     return str(args.out)
-

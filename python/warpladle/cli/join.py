@@ -9,17 +9,23 @@ from .cut import tell_made
 from .inputs import add_files, add_json, add_out, add_sparse, named_files, open_input, output_path
 from .output import BadUsage, Output, Status
 
-MORE = ('The files are granules of a pass, in the order of time. Their SPHR and global records must be the same, but for the times of their headers, '
-        'and none may start more than a millisecond before the one before it stops. The result keeps ORBIT_END, SUBSAT_LATITUDE_END, '
-        'SUBSAT_LONGITUDE_END and SENSING_END_THEORETICAL of the first.')
+MORE = (
+    'The files are granules of a pass, in the order of time. Their SPHR and global records must be the same, but for'
+    ' the times of their headers, and none may start more than a millisecond before the one before it stops. The result'
+    ' keeps ORBIT_END, SUBSAT_LATITUDE_END, SUBSAT_LONGITUDE_END and SENSING_END_THEORETICAL of the first.'
+)
 
 
 def add_arguments(parser: argparse.ArgumentParser) -> None:
     """What it takes."""
     add_files(parser, 'two or more, in the order of time')
+    parser.set_defaults(is_guarded=True)  # several large files may be mapped at a time
     add_out(parser)
-    parser.add_argument('--identical', action='store_true',
-                        help="request Seven's own join: SPHR and global records the same in every byte, and no overlap at all")
+    parser.add_argument(
+        '--identical',
+        action='store_true',
+        help="request Seven's own join: SPHR and global records the same in every byte, and no overlap at all",
+    )
     add_json(parser)
     add_sparse(parser)
 

@@ -12,13 +12,18 @@ from ..refusal import State
 from .inputs import add_file, add_json, add_sparse, open_input
 from .output import Output, Status
 
-MORE = 'The first line has their number; each other line a record: where it starts, its class, group, subclass, version and size.'
+MORE = (
+    'The first line has their number; each other line a record: where it starts, its class, group, subclass, version'
+    ' and size.'
+)
 
 
 def add_arguments(parser: argparse.ArgumentParser) -> None:
     """What it takes."""
     add_file(parser)
-    parser.add_argument('--times', action='store_true', help='the start and stop time of each record too; - where one is undefined')
+    parser.add_argument(
+        '--times', action='store_true', help='the start and stop time of each record too; - where one is undefined'
+    )
     parser.add_argument('--names', action='store_true', help='classes and groups by name')
     add_json(parser)
     add_sparse(parser)
@@ -46,7 +51,7 @@ def records(product: Product, args: argparse.Namespace) -> Iterator[dict[str, An
         if args.names:
             record.update({'class': class_name(of['class']), 'group': group_name(of['group'])})
         if args.times:
-            found = read_header(product.data, of['start'])
-            for name, time in (('start_time', found.start_time), ('stop_time', found.stop_time)):
-                record[name] = (None if args.json else '-') if time is None else time.isoformat()
+            times = read_header(product.data, of['start'])[-2:]
+            texts = [(None if args.json else '-') if time is None else time.isoformat() for time in times]
+            record.update(zip(('start_time', 'stop_time'), texts))
         yield record

@@ -23,7 +23,12 @@ class Status(IntEnum):
 
 # what is told of many files: the worst of them
 SEVERITY = (Status.FINE, Status.INCOMPLETE, Status.REFUSED, Status.TROUBLE)
-STATUS_OF = {State.WHOLE: Status.FINE, State.INCOMPLETE: Status.INCOMPLETE, State.REFUSED: Status.REFUSED, None: Status.TROUBLE}
+STATUS_OF = {
+    State.WHOLE: Status.FINE,
+    State.INCOMPLETE: Status.INCOMPLETE,
+    State.REFUSED: Status.REFUSED,
+    None: Status.TROUBLE,
+}
 
 
 class BadUsage(Exception):
@@ -102,7 +107,11 @@ class Output:
         name = os.fsdecode(error.filename) if error.filename is not None else self.subject or 'standard output'
         hint = '; --force replaces it' if isinstance(error, FileExistsError) else ''
         hint = '; -r goes into folders' if isinstance(error, IsADirectoryError) else hint
-        self._tell(f'{name}: {words_of(error)}{hint}', {'file': name, 'state': 'error', 'error': {'words': words_of(error) + hint}}, True)
+        self._tell(
+            f'{name}: {words_of(error)}{hint}',
+            {'file': name, 'state': 'error', 'error': {'words': words_of(error) + hint}},
+            True,
+        )
         return Status.TROUBLE
 
     def _tell(self, text: str, values: dict[str, Any], is_error: bool) -> None:

@@ -5,19 +5,29 @@ import argparse
 import os
 import sys
 
+from ..drawing import SUFFIXES
 from ..files import refuse_to_overwrite, write_beside
-from ..picture import SUFFIXES, picture_of_product
+from ..picture import picture_of_product
 from .inputs import add_file, add_force, add_json, add_sparse, open_input
 from .output import STATUS_OF, BadUsage, Output, Status
 
-MORE = ('Its records along the bytes, and its MDRs along time with gaps and overlaps. A product that is refused or incomplete is drawn up to the place, '
-        'which is marked.')
+MORE = (
+    'Its records along the bytes, and its MDRs along time with gaps and overlaps. A product that is refused or'
+    ' incomplete is drawn up to the place, which is marked.'
+)
 
 
 def add_arguments(parser: argparse.ArgumentParser) -> None:
     """What it takes."""
     add_file(parser)
-    parser.add_argument('out', metavar='OUT', help=f'the picture: its name ends in {", ".join("." + suffix for suffix in SUFFIXES)}; - is an SVG to standard output')
+    parser.add_argument(
+        'out',
+        metavar='OUT',
+        help=(
+            f'the picture: its name ends in {", ".join("." + suffix for suffix in SUFFIXES)}; - is an SVG to standard'
+            ' output'
+        ),
+    )
     add_force(parser)
     add_json(parser)
     add_sparse(parser)

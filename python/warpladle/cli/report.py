@@ -18,8 +18,11 @@ from .check import in_turn
 from .inputs import READ_SOON, a_count, add_files, add_force, add_json, add_sparse, named_files, open_input
 from .output import STATUS_OF, BadUsage, Output, Status, complain
 
-MORE = ('What is refused and what is incomplete is named with its reason; so are gaps and overlaps between products of one spacecraft, instrument, type '
-        'and level, by their SENSING times where they are more than a second, and products that are there twice.')
+MORE = (
+    'What is refused and what is incomplete is named with its reason; so are gaps and overlaps between products of one'
+    ' spacecraft, instrument, type and level, by their SENSING times where they are more than a second, and products'
+    ' that are there twice.'
+)
 AT_ONCE = 32  # files that a worker of a cluster counts before it hands them in
 
 
@@ -27,10 +30,22 @@ def add_arguments(parser: argparse.ArgumentParser) -> None:
     """What it takes."""
     add_files(parser, 'a product, or - for standard input')
     parser.add_argument('--by', choices=('day',), help='a report for each day too, by SENSING_START')
-    parser.add_argument('--strict', action='store_true', help='end with 1 where a product is refused, with 3 where one is incomplete')
-    parser.add_argument('--add', action='append', default=[], metavar='REPORT', help='add what `report --json` wrote; may be said more than once')
+    parser.add_argument(
+        '--strict', action='store_true', help='end with 1 where a product is refused, with 3 where one is incomplete'
+    )
+    parser.add_argument(
+        '--add',
+        action='append',
+        default=[],
+        metavar='REPORT',
+        help='add what `report --json` wrote; may be said more than once',
+    )
     parser.add_argument('--jobs', type=a_count, default=1, metavar='N', help='so many files at a time (1)')
-    parser.add_argument('--scheduler', metavar='ADDRESS', help='count on the workers of a Dask cluster, where the files have the same names')
+    parser.add_argument(
+        '--scheduler',
+        metavar='ADDRESS',
+        help='count on the workers of a Dask cluster, where the files have the same names',
+    )
     parser.add_argument('--picture', metavar='OUT', help='draw it too')
     add_force(parser)
     add_json(parser)
@@ -40,6 +55,7 @@ def add_arguments(parser: argparse.ArgumentParser) -> None:
 def run(args: argparse.Namespace, output: Output) -> Status:
     """The report; what is refused is a part of it, and no failure unless --strict."""
     from .picture import suffix_of
+
     output.subject = args.picture
     suffix = None
     if args.picture is not None:
@@ -52,7 +68,8 @@ def run(args: argparse.Namespace, output: Output) -> Status:
         complain(f'{entry["file"]}: {entry["error"]["words"]}')
     tell(args, output, overview)
     if suffix is not None:
-        from ..picture import picture_of_overview
+        from ..charts import picture_of_overview
+
         write_beside(args.picture, picture_of_overview(overview, suffix), force=args.force)
     if overview.of_state('error'):
         return Status.TROUBLE
@@ -77,7 +94,11 @@ def count(args: argparse.Namespace, names: list[str]) -> Iterator[Entry]:
         yield from count_on_cluster(args.scheduler, names, args.sparse)
         return
     count_one = functools.partial(count_input, sparse=args.sparse)
-    counted = in_turn(count_one, names) if args.jobs == 1 else map_in_workers(functools.partial(count_one, may_map=True), names, args.jobs)
+    counted = (
+        in_turn(count_one, names)
+        if args.jobs == 1
+        else map_in_workers(functools.partial(count_one, may_map=True), names, args.jobs)
+    )
     for name, entry in zip(names, show_progress(counted, len(names))):
         yield cut_short(name) if isinstance(entry, Died) else entry
 
@@ -94,9 +115,11 @@ def count_on_cluster(address: str, names: list[str], sparse: bool) -> list[Entry
     try:
         from distributed import Client
     except ImportError as error:
-        raise BadUsage(f'--scheduler needs Dask, which is not installed here (Debian: python3-distributed): {error}') from None
+        raise BadUsage(
+            f'--scheduler needs Dask, which is not installed here (Debian: python3-distributed): {error}'
+        ) from None
     paths = [os.path.abspath(name) for name in names]
-    shares = [paths[k:k + AT_ONCE] for k in range(0, len(paths), AT_ONCE)]
+    shares = [paths[k : k + AT_ONCE] for k in range(0, len(paths), AT_ONCE)]
     with Client(address) as client:
         futures = client.map(functools.partial(count_files, sparse=sparse), shares, pure=False)
         entries = [entry for share in show_progress(map(client.gather, futures), len(shares)) for entry in share]
@@ -119,13 +142,21 @@ def tell(args: argparse.Namespace, output: Output, overview: Overview) -> None:
     """The report for people, or for a program."""
     days = overview.by_day() if args.by else {}
     if args.json:
-        by_day = {'days': {day: {key: value for key, value in found.as_dict().items() if key != 'entries'} for day, found in days.items()}}
+        by_day = {
+            'days': {
+                day: {key: value for key, value in found.as_dict().items() if key != 'entries'}
+                for day, found in days.items()
+            }
+        }
         output.say('', {**overview.as_dict(), **(by_day if days else {})})
         return
     lines = overview.lines()
     for day, found in days.items():
         numbers = found.as_dict()
         refused, incomplete = len(found.of_state('refused')), len(found.of_state('incomplete'))
-        lines.append(f'{day}: products {numbers["products"]}, accepted {numbers["accepted"]}, refused {refused}, incomplete {incomplete}, '
-                     f'MDRs {numbers["records"]["MDR"]}, gaps {numbers["gap_ms"]} ms, overlaps {numbers["overlap_ms"]} ms')
+        lines.append(
+            f'{day}: products {numbers["products"]}, accepted {numbers["accepted"]}, refused {refused}, incomplete'
+            f' {incomplete}, MDRs {numbers["records"]["MDR"]}, gaps {numbers["gap_ms"]} ms, overlaps'
+            f' {numbers["overlap_ms"]} ms'
+        )
     sys.stdout.write('\n'.join(lines) + '\n')

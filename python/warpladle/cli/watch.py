@@ -18,15 +18,29 @@ from ..watch import Waiting, Watch, record_arrival
 from .inputs import STANDARD, add_force, add_json, add_sparse, is_stream, some_seconds
 from .output import BadUsage, Output, Status
 
-MORE = ('A refusal is said at once. A file may come later than its watch, grow, be renamed and be replaced by another of its name; its bytes from its '
-        'first hole on have not come.')
+MORE = (
+    'A refusal is said at once. A file may come later than its watch, grow, be renamed and be replaced by another of'
+    ' its name; its bytes from its first hole on have not come.'
+)
 POLL = 0.05  # seconds between two looks at a file that does not grow
 
 
 def add_arguments(parser: argparse.ArgumentParser) -> None:
     """What it takes."""
-    parser.add_argument('file', nargs='?', default=STANDARD, metavar='FILE', help='a file that grows; standard input where none is named')
-    parser.add_argument('--wait', type=some_seconds, default=60.0, metavar='SECONDS', help='give up when the file has not come or grown for so long (60)')
+    parser.add_argument(
+        'file',
+        nargs='?',
+        default=STANDARD,
+        metavar='FILE',
+        help='a file that grows; standard input where none is named',
+    )
+    parser.add_argument(
+        '--wait',
+        type=some_seconds,
+        default=60.0,
+        metavar='SECONDS',
+        help='give up when the file has not come or grown for so long (60)',
+    )
     parser.add_argument('--record', dest='record_to', metavar='OUT', help='write the record of the arrival, for replay')
     add_force(parser)
     add_json(parser)
@@ -44,8 +58,8 @@ def run(args: argparse.Namespace, output: Output) -> Status:
 
 
 class Arrival:
-    """What has come of a product, judged as it comes: by a watch, and of a file with more than 64 pointers by the arrival judge,
-    from all its bytes. `reread` gives the first so many bytes of a file."""
+    """What has come of a product, judged as it comes: by a watch, and of a file with more than 64 pointers by the
+    arrival judge, from all its bytes. `reread` gives the first so many bytes of a file."""
 
     def __init__(self, reread: Callable[[int], bytes | bytearray] | None = None) -> None:
         self.watch = Watch()
@@ -238,7 +252,15 @@ def tell_arrived(name: str, output: Output, arrival: Arrival, now: str | None = 
     """How far an arrival came that was not refused."""
     (count, end), size = arrival.waiting, arrival.declared
     state = State.WHOLE if arrival.whole else State.INCOMPLETE
-    values = {'file': name, 'state': state.value, 'accepted': arrival.whole, 'records': count, 'end': end, 'bytes': arrival.fed, 'declared': size}
+    values = {
+        'file': name,
+        'state': state.value,
+        'accepted': arrival.whole,
+        'records': count,
+        'end': end,
+        'bytes': arrival.fed,
+        'declared': size,
+    }
     if now is not None:
         values['now'] = now
     renamed = '' if now is None else f' (it is {now} now)'

@@ -2,144 +2,24 @@
 //!
 //! Every answer is filled with ones first, so that a number left unwritten is noticed.
 
-extern "C" {
-    fn wl_arrival(bytes: *const u8, len: usize, answer: &mut [u64; 4]);
-    fn wl_extent(bytes: *const u8, len: usize, answer: &mut [u64; 4]);
-    fn wl_verdict(bytes: *const u8, len: usize, answer: &mut [u64; 4]);
-    fn wl_rows(bytes: *const u8, len: usize, rows: *mut [u32; 7], room: usize, answer: &mut [u64; 4]);
-    fn wl_level0(bytes: *const u8, len: usize, rows: *mut [u32; 7], room: usize, answer: &mut [u64; 4]);
-
-    fn wl_watch_new(watch: &mut Watch);
-    fn wl_watch_feed(watch: &mut Watch, part: *const u8, len: usize, answer: &mut [u64; 4]);
-
-    fn wl_record(bytes: *const u8, len: usize, k: usize, answer: &mut [u64; 16]);
-    fn wl_number_field(bytes: *const u8, len: usize, k: usize, answer: &mut [u64; 4]);
-    fn wl_time_field(bytes: *const u8, len: usize, k: usize, answer: &mut [u64; 12]);
-    fn wl_text_field(bytes: *const u8, len: usize, k: usize, answer: &mut [u64; 4]);
-    fn wl_field(k: usize, name: *mut u8, room: usize, answer: &mut [u64; 6]);
-    fn wl_field_named(name: *const u8, len: usize, answer: &mut [u64; 4]);
-    fn wl_ground_point(bytes: *const u8, len: usize, which: u8, point: &mut [f64; 2], answer: &mut [u64; 4]);
-    fn wl_listing(bytes: *const u8, len: usize, text: *mut u8, room: usize, answer: &mut [u64; 4]);
-
-    #[rustfmt::skip]
-    fn wl_cut(
-        bytes: *const u8,
-        len: usize,
-        first_defined: u8,
-        first_day: u16,
-        first_milli: u32,
-        last_defined: u8,
-        last_day: u16,
-        last_milli: u32,
-        room: *mut u8,
-        room_len: usize,
-        answer: &mut [u64; 4],
-    );
-    #[rustfmt::skip]
-    fn wl_join(first: *const u8, first_len: usize, second: *const u8, second_len: usize, room: *mut u8, room_len: usize, answer: &mut [u64; 4]);
-    #[rustfmt::skip]
-    fn wl_join_pass(first: *const u8, first_len: usize, second: *const u8, second_len: usize, room: *mut u8, room_len: usize, answer: &mut [u64; 4]);
-    fn wl_check_cut(original: *const u8, len: usize, cut: *const u8, cut_len: usize, answer: &mut [u64; 4]);
-
-    fn wl_replay(record: *const u8, len: usize, product: *const u8, product_len: usize, answer: &mut [u64; 4]);
-    #[rustfmt::skip]
-    fn wl_record_arrival(lengths: *const u32, count: usize, product: *const u8, len: usize, room: *mut u8, room_len: usize, answer: &mut [u64; 4]);
-
-    fn wl_report_add(report: &mut [u64; 38], bytes: *const u8, len: usize, answer: &mut [u64; 4]);
-    fn wl_report_merge(report: &mut [u64; 38], other: &[u64; 38], answer: &mut [u64; 4]);
-
-    #[rustfmt::skip]
-    fn wl_uth(bytes: *const u8, len: usize, blocks: *mut [u32; 4], room: usize, values: *mut [f32; 2], values_room: usize, answer: &mut [u64; 4]);
-
-    fn wl_is_date(year: u16, month: u8, day: u8, answer: &mut [u64; 4]);
-    fn wl_date_of(day: u16, answer: &mut [u64; 6]);
-    fn wl_day_number(year: u16, month: u8, day: u8, answer: &mut [u64; 4]);
-
-    fn wl_read_time(bytes: *const u8, len: usize, at: usize, answer: &mut [u64; 6]);
-    fn wl_write_time(room: *mut u8, len: usize, defined: u8, day: u16, milli: u32, answer: &mut [u64; 4]);
-    fn wl_time_order(defined: u8, day: u16, milli: u32, other_defined: u8, other_day: u16, other_milli: u32, answer: &mut [u64; 4]);
-    fn wl_time_text(room: *mut u8, len: usize, defined: u8, day: u16, milli: u32, answer: &mut [u64; 4]);
-    fn wl_text_time(bytes: *const u8, len: usize, at: usize, answer: &mut [u64; 6]);
-
-    fn wl_read_scaled(bytes: *const u8, len: usize, at: usize, width: usize, signed: u8, answer: &mut [u64; 6]);
-    fn wl_write_scaled(room: *mut u8, len: usize, width: usize, signed: u8, defined: u8, integer: i64, scale: i8, answer: &mut [u64; 4]);
-    fn wl_round(defined: u8, integer: i64, scale: i8, decimals: i8, answer: &mut [u64; 4]);
-    fn wl_reading(defined: u8, integer: i64, scale: i8, value: &mut f64, answer: &mut [u64; 4]);
-
-    fn wl_read_header(bytes: *const u8, len: usize, at: usize, answer: &mut [u64; 16]);
-    fn wl_write_header(
-        room: *mut u8,
-        len: usize,
-        class: u8,
-        group: u8,
-        subclass: u8,
-        version: u8,
-        size: u32,
-        start_defined: u8,
-        start_day: u16,
-        start_milli: u32,
-        stop_defined: u8,
-        stop_day: u16,
-        stop_milli: u32,
-        answer: &mut [u64; 4],
-    );
-    fn wl_write_text_line(room: *mut u8, len: usize, k: usize, text: *const u8, text_len: usize, answer: &mut [u64; 4]);
-    fn wl_write_number_line(room: *mut u8, len: usize, k: usize, defined: u8, value: i64, answer: &mut [u64; 4]);
-    fn wl_write_time_line(
-        room: *mut u8,
-        len: usize,
-        k: usize,
-        defined: u8,
-        year: u16,
-        month: u8,
-        day: u8,
-        hour: u8,
-        minute: u8,
-        second: u8,
-        milli: u16,
-        answer: &mut [u64; 4],
-    );
-}
-
-/// wl_watch, whose parts are its own.
-#[repr(C)]
-#[derive(Clone, PartialEq)]
-pub struct Watch {
-    got: usize,
-    have: usize,
-    at: usize,
-    count: usize,
-    d: usize,
-    due: usize,
-    place: usize,
-    next: usize,
-    line: usize,
-    prev: u8,
-    number: u8,
-    totals: [usize; 9],
-    tally: [usize; 9],
-    starts: [u32; 64],
-    targets: [u32; 64],
-    kinds: [u32; 64],
-    head: [u8; 3307],
-    under: [u8; 27],
-}
+pub use warpladle_sys::Watch;
+use warpladle_sys::*;
 
 /// A place for a watch, filled with ones as an answer is.
 const UNMADE: Watch = Watch {
-    got: usize::MAX,
-    have: usize::MAX,
-    at: usize::MAX,
-    count: usize::MAX,
-    d: usize::MAX,
-    due: usize::MAX,
-    place: usize::MAX,
-    next: usize::MAX,
-    line: usize::MAX,
-    prev: u8::MAX,
+    got: u64::MAX,
+    have: u64::MAX,
+    at: u64::MAX,
+    count: u64::MAX,
+    declared: u64::MAX,
+    due: u64::MAX,
+    place: u64::MAX,
+    next: u64::MAX,
+    line: u64::MAX,
+    previous: u8::MAX,
     number: u8::MAX,
-    totals: [usize::MAX; 9],
-    tally: [usize::MAX; 9],
+    totals: [u64::MAX; 9],
+    tally: [u64::MAX; 9],
     starts: [u32::MAX; 64],
     targets: [u32::MAX; 64],
     kinds: [u32::MAX; 64],

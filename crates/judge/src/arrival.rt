@@ -253,9 +253,9 @@ fn walk_16384(s: &[u8], profile: &[[u8; 6]], totals: &[usize], d: usize) -> Walk
     walk_on(s, profile, totals, &mut held, d)
 }
 
-// The walk of a product of many pointers. A large room is a large frame, which a call touches page by page. The compiler puts none into a
-// function that calls itself, and such a function into no other, so that products of few pointers have a small frame. It calls itself for each
-// million of pointers: a total has six digits, so it never does, which the compiler cannot know.
+// The walk of a product of many pointers. A large room is a large frame, which a call touches page by page. The compiler puts none into
+// a function that calls itself, and such a function into no other, so that products of few pointers have a small frame. It calls itself
+// for each million of pointers: a total has six digits, so it never does, which the compiler cannot know.
 fn walk_far(s: &[u8], profile: &[[u8; 6]], totals: &[usize], d: usize, millions: usize) -> Walked
     requires { ⌜ Walking (now s) (now totals) d ⌝ }
     ensures { λ r. ⌜ WalkedIs (now (profile .entry)) (now (s .entry)) r ⌝ }

@@ -1,6 +1,7 @@
 // Cuts each product of standard input to its window, or joins it with a second one, into rooms of the sizes that are asked, and prints the
 // answers; and `lost` where a room does not hold what the case asks for. A case is 31 bytes, the product, the second one, what is to be
-// written and the rooms' sizes (tools/rewrite-cases says which and writes them). Of a pass all granules are joined, from the first to the last.
+// written and the rooms' sizes (tools/rewrite-cases says which and writes them). Of a pass all granules are joined, from the first to the
+// last.
 use cases::input::byte;
 use cases::input::fitting;
 use cases::input::part;

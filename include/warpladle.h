@@ -32,6 +32,11 @@
 #include <stddef.h>
 #include <stdint.h>
 
+#define WARPLADLE_VERSION "1.0.0"
+#define WARPLADLE_VERSION_MAJOR 1
+#define WARPLADLE_VERSION_MINOR 0
+#define WARPLADLE_VERSION_PATCH 0
+
 #ifdef __cplusplus
 extern "C" {
 #endif
@@ -231,7 +236,7 @@ void wl_level0(const uint8_t *bytes, size_t len, uint32_t (*rows)[7], size_t roo
 
 /* ---- the watch: a product that arrives in parts and is not kept */
 
-/* What is known of the bytes fed so far: the main header's 3,307, those of the record header under way, at most 64 pointers, and numbers; some 4,400
+/* What is known of the bytes fed so far: the main header's 3,307, those of the record header under way, at most 64 pointers, and numbers; 4,328
  * bytes in all. Its fields are the library's own: make it with wl_watch_new, change it with wl_watch_feed alone, copy it as you like. A watch whose
  * bytes came otherwise still ends each call safely, with some answer, whose first number may be none of enum wl_refusal. */
 typedef struct wl_watch {

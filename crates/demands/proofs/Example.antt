@@ -151,7 +151,7 @@ richer =
     (head 3 0 0 27 (5 ∷ 9 ∷ 1 ∷ 0 ∷ 0 ∷ 13 ∷ 53 ∷ head 3 0 0 27 (8 ∷ 13 ∷ 1 ∷ 0 ∷ 0 ∷ 13 ∷ 73 ∷ head 5 9 1 20 (head 8 13 1 21 (0 ∷ []))))))
 
 -- ---- THE LINES. b is what there is from the line's start on, n the names from its own on: so a test walks to each line once
-abbrev isFrame : List ℕ → List ℕ → ℕ → Bool
+abbrev pub isFrame : List ℕ → List ℕ → ℕ → Bool
 isFrame b n w =
     (eqb (lead (λ (j : ℕ). eqb (getD b j 0) (getD n j 0)) 30) 30 && (eqb (getD b 30 0) 61 && eqb (getD b 31 0) 32)) && eqb (getD b (32 + w) 0) 10
 
@@ -165,7 +165,7 @@ passed : (b : Bool) → T b → b ≡ true
 passed true t = refl
 passed false t = absurd t
 
-frame-at : (a : List ℕ) (k : ℕ) → framed a k ≡ isFrame (drop (lineStart k) a) (drop (30 * k) names) (widthOf k)
+pub frame-at : (a : List ℕ) (k : ℕ) → framed a k ≡ isFrame (drop (lineStart k) a) (drop (30 * k) names) (widthOf k)
 unfolding framed named
 frame-at a k =
     let s = lineStart k in
@@ -175,7 +175,7 @@ frame-at a k =
     (λ (j : ℕ). eqb (getD a (s + j) 0) (getD names (30 * k + j) 0)) 30 (λ j h. rw (getD-drop s a j 0, getD-drop (30 * k) names j 0) refl) in
     rw (l, getD-drop s a 30 0, getD-drop s a 31 0, getD-drop s a (32 + widthOf k) 0, e) refl
 
-value-at : (a : List ℕ) (k : ℕ) → valued a k ≡ isValue (kindOf k) (drop (lineStart k) a) 32 (widthOf k)
+pub value-at : (a : List ℕ) (k : ℕ) → valued a k ≡ isValue (kindOf k) (drop (lineStart k) a) 32 (widthOf k)
 unfolding valued
 value-at a k =
     value-alike

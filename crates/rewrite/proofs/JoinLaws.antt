@@ -1,24 +1,28 @@
--- THE JOIN'S ANSWERS: no second answer and no second room fit; a refusal leaves the room as it came; what is written is the join, and then what the room
--- held; and whichever two of three products are joined first, what is written is the same. By cases on the answers. Assumes nothing.
-use Prim.Native.Nat.{ℕ, _+_, _≤_, _<_}
+-- THE JOIN'S ANSWERS: no second answer and no second room fit; a refusal leaves the room as it came; what is written is the join, which the
+-- verdict accepts, and then what the room held; and whichever two of three products are joined first, what is written is the same. By cases on the answers. Assumes nothing.
+use Prim.Native.Nat.{ℕ, suc, _+_}
 use native.Mathlib.Omega.{arith}
 use mathlib.Core.Path.{_≡_, refl, sym, ap, subst, _∙_}
 use mathlib.Core.Bool.{Bool}
 use mathlib.Core.List.{List, _++_}
-use lib.ListN.{length, drop, length-append}
+use lib.ListN.{length, take, drop, length-append}
+use lib.Seq.{take-at}
 use Rattle.calendar.specs.declared.Refusal.{Refusal}
 use Rattle.meter.specs.declared.integer.Written.{Written}
 use Rattle.meter.specs.declared.integer.Written.the-variants as W
+use Rattle.finish.specs.Finish.{VerdictIs}
+use Rattle.finish.specs.declared.Finished.{Finished}
+use Rattle.finish.specs.declared.Finished.the-variants as F
 use Rattle.demands.specs.Product.{Meets}
 use Rattle.demands.proofs.Accepted.{one-list, meets-fit, one-refused}
+use Rattle.demands.proofs.Verdict.{product-verdict}
 use Rattle.parts.specs.Parts.{joined, mainOf, recordsAt}
 use Rattle.parts.specs.Only.{only, isSphr, isGlobal, isVariable, isMdr}
 use Rattle.parts.specs.Join.{joinParts, identical, granules}
-use Rattle.parts.specs.Pass.{Alike, InTime, Joinable, joinSize, IsJoin}
+use Rattle.parts.specs.Pass.{Joinable, joinSize, IsJoin}
 use Rattle.parts.proofs.Built.{bytes-joined, meets-built}
 use Rattle.parts.proofs.PassLaws.{one-join, pass-product, pass-mdrs, pass-variables, pass-globals, pass-sphr, pass-three}
 use Rattle.parts.proofs.GranuleLaws.{alike-granules, in-time-granules}
-use Rattle.rewrite.specs.Cut.{refusedAt}
 use Rattle.rewrite.specs.Join.{PartsJoin, unlike, out-of-time, too-much, no-room, written, JoinIs, first-unfit, second-unfit, both, JoinResult}
 
 -- ---- NO SECOND ANSWER FITS, of two products
@@ -108,6 +112,16 @@ join-sized w = w .long ∙ sym (join-length (w .join))
 -- it meets the format, so that the judges accept it
 pub join-product : {i : Bool} {a b room exit : List ℕ} {k : ℕ} (w : JoinResult i a b room k exit) → Meets (w .text)
 join-product {a = a} {b = b} w = pass-product (meets-built a (w .first)) (meets-built b (w .second)) (w .joinable) (w .join)
+
+-- ---- "The result is accepted", of what the join left in the room: whatever the verdict answers of those bytes, it accepts them
+pub join-left : {i : Bool} {a b room exit : List ℕ} {k : ℕ} (w : JoinResult i a b room k exit) → take k exit ≡ w .text
+join-left {room = room} {k = k} w = ap (take k) (w .stands) ∙ take-at (w .text) (drop k room) k (sym (join-sized w))
+
+pub join-accepted : {i : Bool} {a b room exit : List ℕ} {k : ℕ} → JoinIs i a b room (W.Bytes k) exit → (r : Finished) → VerdictIs (take k exit) r → (c : ℕ) × (r ≡ F.Accepted c)
+join-accepted {k = k} j r v =
+    let w = join-written k (W.Bytes k) refl j in
+    let t = join-product w in
+    (suc (length (t .list)), product-verdict (w .text) t r (subst (λ (c : List ℕ). VerdictIs c r) (join-left w) v))
 
 -- its records: every MDR of the two once, in order, and so are the variable records; the SPHR and the global records are the first's as they stand
 module _ {i : Bool} {a b room exit : List ℕ} {k : ℕ} (w : JoinResult i a b room k exit) (t : Meets (w .text)) where

@@ -6,8 +6,7 @@ use native.Mathlib.Omega.{arith}
 use mathlib.Core.Path.{_≡_, refl, sym, ap, subst, _∙_}
 use mathlib.Core.Bool.{Bool}
 use mathlib.Core.List.{List, [], _∷_, _++_}
-use lib.ListN.{length, getD, take, drop, length-append}
-use lib.Seq.{take-at}
+use lib.ListN.{length, getD, take, length-append}
 use Rattle.meter.specs.declared.integer.Written.the-variants as W
 use Rattle.demands.specs.Product.{Meets}
 use Rattle.demands.proofs.Accepted.{one-list}
@@ -21,7 +20,7 @@ use Rattle.parts.proofs.PassOfLaws.{one-pass, Tells, tells-one, join-pass, join
 use Rattle.rewrite.specs.Join.{JoinIs}
 use Rattle.rewrite.specs.Tree.{Tree, granule, join, granules, Writes, alone, joined}
 use Rattle.rewrite.specs.Join.{JoinResult}
-use Rattle.rewrite.proofs.JoinLaws.{join-written, join-sized}
+use Rattle.rewrite.proofs.JoinLaws.{join-written, join-left}
 
 -- ---- the parts of each granule, where it is a product
 data Each : List (List ℕ) → List Granule → Type 0 where
@@ -51,16 +50,12 @@ record Told (ls : List (List ℕ)) (c : List ℕ) (u : Meets c) : Type 0 where
   each : Each ls (first ∷ rest)
   tells : Tells first rest (mainOf c) (recordsAt c (u .list))
 
--- what stands in the room is the join
-text-is : {i : Bool} {a b room exit : List ℕ} {k : ℕ} (w : JoinResult i a b room k exit) → take k exit ≡ w .text
-text-is {room = room} {k = k} w = ap (take k) (w .stands) ∙ take-at (w .text) (drop k room) k (sym (join-sized w))
-
 told : {t : Tree} {c : List ℕ} → Writes t c → (u : Meets c) → Told (granules t) c u
 told (alone {a = a}) u = record { first = P.granule (mainOf a) (recordsAt a (u .list)); rest = []; each = more u none; tells = tells-one (meets-built a u) }
 told (joined {a = a} {b = b} {k = k} x y j) u = both (join-written k (W.Bytes k) refl j) (λ v. told x v) (λ v. told y v) u
   where
     both : {i : Bool} {ls ks : List (List ℕ)} {a b room exit : List ℕ} {k : ℕ} (w : JoinResult i a b room k exit) → ((u : Meets a) → Told ls a u) → ((u : Meets b) → Told ks b u) → (u : Meets (take k exit)) → Told (ls ++ ks) (take k exit) u
-    both {ls = ls} {ks = ks} {a = a} {b = b} w f g = subst (λ (c : List ℕ). (u : Meets c) → Told (ls ++ ks) c u) (sym (text-is w)) (λ u.
+    both {ls = ls} {ks = ks} {a = a} {b = b} w f g = subst (λ (c : List ℕ). (u : Meets c) → Told (ls ++ ks) c u) (sym (join-left w)) (λ u.
         let x = f (w .first) in
         let y = g (w .second) in
         let A = meets-built a (w .first) in
@@ -84,7 +79,7 @@ passed {k = k} x y j =
     let w = join-written k (W.Bytes k) refl j in
     let f = told x (w .first) in
     let g = told y (w .second) in
-    record { list = f .first ∷ (f .rest ++ (g .first ∷ g .rest)); each = each-append (f .each) (g .each); pass = subst (IsPass _) (sym (text-is w)) (join-pass (f .tells) (g .tells) (w .join)) }
+    record { list = f .first ∷ (f .rest ++ (g .first ∷ g .rest)); each = each-append (f .each) (g .each); pass = subst (IsPass _) (sym (join-left w)) (join-pass (f .tells) (g .tells) (w .join)) }
 
 one-passed : {ls ks : List (List ℕ)} {c d : List ℕ} → ls ≡ ks → Passed ls c → Passed ks d → c ≡ d
 one-passed {ls} {ks} {c} {d} e x y =

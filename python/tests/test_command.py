@@ -305,8 +305,8 @@ def test_join(run, rich, tmp_path):
         2,
         '',
         (
-            f'warpladle: back.eps: refused 27 0: expected {names[1]} to start at 2016-06-05T00:00:25.000Z or later, or'
-            f' 1 ms before, where {names[2]} stops, found 2016-06-05T00:00:08.000Z, 17000 ms before\n'
+            f'warpladle: back.eps is not made: refused 27 0: expected {names[1]} to start at 2016-06-05T00:00:25.000Z'
+            f' or later, or 1 ms before, where {names[2]} stops, found 2016-06-05T00:00:08.000Z, 17000 ms before\n'
         ),
     )
     assert run('join', names[0], '-o', 'one.eps') == (2, '', 'warpladle: a join takes two files or more\n')
@@ -330,8 +330,7 @@ def test_compare(run, rich, short, tmp_path):
     assert (value['is_cut'], value['place'], value['state']) == (False, 3675, 'whole')
     done = run('compare', rich, short)
     assert (
-        done.status == 3
-        and done.out == f'{short}: incomplete 17 4000: {short}: expected 4356 bytes, as declared, found 4000\n'
+        done.status == 3 and done.out == f'{short}: incomplete 17 4000: expected 4356 bytes, as declared, found 4000\n'
     )
     assert run('compare', rich, 'none').status == 2
 

@@ -121,6 +121,39 @@ def test_the_watch_waits_at_a_hole_until_it_is_filled(holed, started):
     )
 
 
+def test_the_watch_waits_for_the_last_block_of_a_file_that_had_holes(tmp_path, started):
+    """In its last block no hole is seen once a byte of it has come: the last header is there as zeros for a while."""
+    data = product(
+        [record((8, 9, 2), bytes(20_000 if k < 4 else 10), (DAY, 1000 * k), (DAY, 1000 * k)) for k in range(5)]
+    )
+    last = (len(data) - 1) // BLOCK * BLOCK
+    assert len(data) - 30 > last + 5  # the last record is in the last block, and not at its start
+    path = tmp_path / 'hole.eps'
+    with open(path, 'wb') as file:
+        file.truncate(len(data))
+        file.write(data[:BLOCK])
+    if come(path) == len(data):
+        pytest.skip('the file system knows of no holes')
+    watching = started('watch', path)
+    with open(path, 'r+b', buffering=0) as file:
+        patiently(lambda: is_open_in(watching.pid, path))
+        file.write(data[: last + 5])
+        for k in range(10):
+            time.sleep(0.05)
+            os.utime(path)  # as a downloader that is busy
+            assert watching.poll() is None
+        file.seek(0)
+        file.write(data)
+    assert (
+        watching.stdout.readline().decode() == f'{path}: whole, 6 records, {len(data)} bytes\n'
+        and watching.wait(30) == 0
+    )
+
+
+def is_open_in(process, path):
+    return any(os.path.realpath(f'/proc/{process}/fd/{fd}') == str(path) for fd in os.listdir(f'/proc/{process}/fd'))
+
+
 # ---- outputs
 
 

@@ -5,7 +5,7 @@ import os
 import pytest
 from conftest import ROOT
 from making import DAY, granule, product, record
-from test_safe import many_pointers, patiently
+from test_safe import is_open_in, many_pointers, patiently
 
 from warpladle import Product, Refusal, Refused, State
 
@@ -271,12 +271,7 @@ def test_a_watched_file_may_be_renamed(started, rich, tmp_path):
     data, path = rich.read_bytes(), tmp_path / 'new.eps.part'
     path.write_bytes(data[:3500])
     watching = started('watch', path)
-    patiently(
-        lambda: any(
-            os.path.realpath(f'/proc/{watching.pid}/fd/{fd}') == str(path)
-            for fd in os.listdir(f'/proc/{watching.pid}/fd')
-        )
-    )
+    patiently(lambda: is_open_in(watching.pid, path))
     path.rename(tmp_path / 'new.eps')
     with open(tmp_path / 'new.eps', 'ab') as file:
         file.write(data[3500:])
@@ -290,12 +285,7 @@ def test_a_watched_file_may_be_replaced(started, rich, tmp_path):
     data, path = rich.read_bytes(), tmp_path / 'new.eps'
     path.write_bytes(data[:3500])
     watching = started('watch', path, '--json')
-    patiently(
-        lambda: any(
-            os.path.realpath(f'/proc/{watching.pid}/fd/{fd}') == str(path)
-            for fd in os.listdir(f'/proc/{watching.pid}/fd')
-        )
-    )
+    patiently(lambda: is_open_in(watching.pid, path))
     (tmp_path / 'other').write_bytes(data)
     os.replace(tmp_path / 'other', path)
     value = json.loads(watching.stdout.readline())

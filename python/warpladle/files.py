@@ -85,9 +85,13 @@ def surely_come(handle: int, about: os.stat_result) -> int:
     """How many bytes of a regular file have surely come: all of them, or those before the last block before its first
     hole, which may be half written. It moves the place at which the file is read next."""
     hole = first_hole(handle, about.st_size)
-    if hole == about.st_size:
-        return hole
-    return max(0, hole - 1) // (about.st_blksize or BLOCK) * (about.st_blksize or BLOCK)
+    return hole if hole == about.st_size else before_last_block(about, hole)
+
+
+def before_last_block(about: os.stat_result, end: int | None = None) -> int:
+    """Where the block begins that has the last byte before `end`, or the last of the file."""
+    block = about.st_blksize or BLOCK
+    return max(0, (about.st_size if end is None else end) - 1) // block * block
 
 
 # ---- written

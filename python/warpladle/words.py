@@ -142,7 +142,9 @@ def _tally(data: Any, end: int) -> list[int]:
 def which_at(data: Any, start: int) -> str:
     """The record that starts there, by name and by which of its class it is, as `MDR 3`; classes count from 1."""
     class_ = header_at(data, start)[0]
-    return f'{class_name(class_)} {_tally(data, start)[class_] + 1}'
+    return (
+        f'{class_name(class_)} {_tally(data, start)[class_] + 1}' if 1 <= class_ <= 8 else f'a record of class {class_}'
+    )
 
 
 def record_words(data: Any, start: int) -> str:

@@ -2,14 +2,18 @@
 command."""
 from __future__ import annotations
 
+import ctypes
 import os
 import pickle
+import select
 import signal
 import sys
 from collections.abc import Callable, Iterator, Sequence
-from contextlib import ExitStack
+from contextlib import ExitStack, contextmanager
 from typing import Any, NamedTuple, NoReturn
 
+LOOK_UP = 0.2  # seconds
+PR_SET_PDEATHSIG = 1  # of Linux's prctl
 ENDINGS = (signal.SIGINT, signal.SIGTERM, signal.SIGHUP)
 
 
@@ -24,6 +28,23 @@ def flush_output() -> None:
     """What was printed goes out, so that a child does not print it again."""
     sys.stdout.flush()
     sys.stderr.flush()
+
+
+@contextmanager
+def signals_held() -> Iterator[None]:
+    """Signals that end the command wait until the block ends: what they raise while a process forks is lost."""
+    before = signal.pthread_sigmask(signal.SIG_BLOCK, ENDINGS)
+    try:
+        yield
+    finally:
+        signal.pthread_sigmask(signal.SIG_SETMASK, before)
+
+
+def wait_for(handle: int) -> None:
+    """Waits until something can be read. Now and then it looks up: a signal that comes just before a call blocks would
+    else be seen only after it."""
+    while not select.select([handle], [], [], LOOK_UP)[0]:
+        pass
 
 
 class Worker:
@@ -41,21 +62,23 @@ class Worker:
         _send(self.to, item)
 
     def _start(self) -> None:
-        from_parent, self.to = os.pipe()
-        from_child, to_parent = os.pipe()
         flush_output()
-        self.process = os.fork()
-        if self.process == 0:
-            os.close(self.to)
-            os.close(from_child)
-            _serve(from_parent, to_parent, self.function)
-        os.close(from_parent)
-        os.close(to_parent)
-        self.results = os.fdopen(from_child, 'rb')
+        with signals_held():
+            from_parent, self.to = os.pipe()
+            from_child, to_parent = os.pipe()
+            self.results = os.fdopen(from_child, 'rb')
+            self.process = os.fork()
+            if self.process == 0:
+                os.close(self.to)
+                os.close(from_child)
+                _serve(from_parent, to_parent, self.function)
+            os.close(from_parent)
+            os.close(to_parent)
 
     def receive(self) -> Any:
         """The result of the item that was sent; of one that ended the process `Died`, and the next item begins
         another."""
+        wait_for(self.results.fileno())
         try:
             is_raised, value = pickle.load(self.results)
         except (EOFError, pickle.UnpicklingError):
@@ -88,9 +111,11 @@ def _send(pipe: int, value: Any) -> None:
 
 
 def _let_signals_end() -> None:
-    """Signals end this process at once: there is nothing to take away."""
+    """Signals end this process at once, and so does the end of its parent: there is nothing to take away."""
+    ctypes.CDLL(None).prctl(PR_SET_PDEATHSIG, signal.SIGKILL)
     for ending in ENDINGS:
         signal.signal(ending, signal.SIG_DFL)
+    signal.pthread_sigmask(signal.SIG_UNBLOCK, ENDINGS)
 
 
 def _serve(from_parent: int, to_parent: int, function: Callable[[Any], Any]) -> NoReturn:
@@ -133,7 +158,8 @@ def _next(worker: Worker, items: Sequence[Any], following: int) -> Any:
 def run_in_child(call: Callable[[], int]) -> int | Died:
     """The status that a call ends with in a process of its own, to which signals are handed on."""
     flush_output()
-    process = os.fork()
+    with signals_held():
+        process = os.fork()
     if process == 0:
         status = 2
         try:
@@ -150,5 +176,12 @@ def run_in_child(call: Callable[[], int]) -> int | Died:
 
 
 def _status_of(process: int) -> int | Died:
+    try:
+        handle = os.pidfd_open(process)  # which can be read when the process has ended
+    except OSError:  # of an old kernel
+        handle = -1
+    if handle >= 0:
+        with os.fdopen(handle, 'rb') as file:
+            wait_for(file.fileno())
     status = os.waitpid(process, 0)[1]
     return Died(os.WTERMSIG(status), process) if os.WIFSIGNALED(status) else os.WEXITSTATUS(status)

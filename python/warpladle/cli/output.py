@@ -93,14 +93,15 @@ class Output:
             values['error'] = refused.as_dict()
         else:
             values.update(accepted=False, refusal=refused.as_dict(), **(more or {}))
-        self._tell(f'{about}: {self.refusal_text(refused)}', values, refused.state is None)
+        spoken = f'{about} is not made' if len(refused.inputs) > 1 else about
+        self._tell(f'{spoken}: {self.refusal_text(refused, about)}', values, refused.state is None)
         return STATUS_OF[refused.state]
 
     @staticmethod
-    def refusal_text(refused: Refused) -> str:
-        """`refused` or `incomplete`, the number, the place and the words."""
+    def refusal_text(refused: Refused, about: str = '') -> str:
+        """`refused` or `incomplete`, the number, the place and the words, without the name of the file at their start."""
         word = 'incomplete' if refused.state is State.INCOMPLETE else 'refused'
-        return f'{word} {refused.number} {refused.place}: {refused.words}'
+        return f'{word} {refused.number} {refused.place}: {refused.words.removeprefix(f"{about}: ")}'
 
     def tell_error(self, error: OSError) -> Status:
         """That a file cannot be read or written."""

@@ -11,7 +11,7 @@ from collections.abc import Callable, Iterator
 from typing import Any, BinaryIO
 
 from .. import words
-from ..files import PART, read_file, refuse_to_overwrite, surely_come, told_of, write_beside
+from ..files import PART, before_last_block, read_file, refuse_to_overwrite, surely_come, told_of, write_beside
 from ..library import answer
 from ..refusal import Refusal, Refused, State
 from ..watch import Waiting, Watch, record_arrival
@@ -23,6 +23,7 @@ MORE = (
     ' its name; its bytes from its first hole on have not come.'
 )
 POLL = 0.05  # seconds between two looks at a file that does not grow
+SETTLED = 1.0  # seconds after which a file that had holes is taken as written
 
 
 def add_arguments(parser: argparse.ArgumentParser) -> None:
@@ -189,21 +190,44 @@ def is_replaced(name: str, handle: int) -> bool:
     return (there.st_dev, there.st_ino) != (ours.st_dev, ours.st_ino)
 
 
+class Coming:
+    """How much of a file has surely come. Of one that had a hole the last block, too, has come only when the file has
+    not been written for a while: no hole is seen there once a byte of it has come."""
+
+    def __init__(self, handle: int, patience: Patience, sparse: bool) -> None:
+        self.handle, self.patience, self.sparse = handle, patience, sparse
+        self.had_hole = False
+        self.written, self.since = -1, 0.0
+
+    def look(self) -> tuple[int, int]:
+        """The size of the file, and how much of it has come."""
+        about = os.fstat(self.handle)
+        if about.st_mtime_ns != self.written:  # something was written, be it behind a hole
+            self.written, self.since = about.st_mtime_ns, time.monotonic()
+            self.patience.renew()
+        if self.sparse:
+            return about.st_size, about.st_size
+        come = surely_come(self.handle, about)
+        self.had_hole = self.had_hole or come < about.st_size
+        if self.had_hole and come == about.st_size and time.monotonic() - self.since < SETTLED:
+            come = before_last_block(about)
+        return about.st_size, come
+
+
 def follow(name: str, handle: int, arrival: Arrival, patience: Patience, sparse: bool) -> bool:
     """Feeds what comes until all has, or nothing does for too long; whether another file has then taken the name.
 
     Raises Refused: 1 to 16. Raises OSError where the file was cut short.
     """
+    coming = Coming(handle, patience, sparse)
     while True:
-        about = os.fstat(handle)
-        size, come = about.st_size, about.st_size if sparse else surely_come(handle, about)
+        size, come = coming.look()
+        if size < arrival.fed:
+            raise OSError(errno.EIO, 'it was cut short while it was watched', name)
         part = os.pread(handle, min(PART, come - arrival.fed), arrival.fed) if come > arrival.fed else b''
         if part:
             arrival.feed(part)
-            patience.renew()
             continue
-        if size < arrival.fed:
-            raise OSError(errno.EIO, 'it was cut short while it was watched', name)
         arrival.look()
         if arrival.whole and size == arrival.fed:
             return False

@@ -477,3 +477,30 @@ def test_standard_input_wherever_a_product_is_read(rich, run, tmp_path):
     assert done.status == 2 and '27 0: expected - to start' in done.err
     assert run('uth', '-', stdin=(ROOT / 'samples' / 'humidity.uth').read_bytes()).out.startswith('40 41')
     assert run('picture', rich, '-').out.startswith('<?xml') and (tmp_path / '-').read_bytes() == b'a file of that name'
+
+
+def test_a_worker_that_was_ended_while_it_waited_begins_anew():
+    from warpladle.workers import Worker
+
+    worker = Worker(lambda item: item + 1)
+    assert worker.ask(1) == 2
+    os.kill(worker.process, signal.SIGKILL)
+    os.waitid(os.P_PID, worker.process, os.WEXITED | os.WNOWAIT)
+    assert worker.ask(2) == 3
+    worker.end()
+
+
+def test_what_a_worker_raises_is_raised_here():
+    from warpladle.workers import Died, map_in_workers
+
+    def strange(item):
+        if item == 2:
+            raise ValueError('two')
+        if item == 1:
+            os.kill(os.getpid(), signal.SIGKILL)
+        return item
+
+    results = map_in_workers(strange, [0, 1, 3, 2], 2)
+    assert next(results) == 0 and isinstance(next(results), Died) and next(results) == 3
+    with pytest.raises(ValueError, match='two'):
+        next(results)

@@ -374,10 +374,11 @@ def test_version_and_help(run):
     assert run('help', 'nothing').status == 2
 
 
-def test_the_version_is_the_project_s():
+def test_the_version_is_that_of_the_library_s_header():
     import warpladle
 
     assert f'version = "{warpladle.__version__}"' in (ROOT / 'python' / 'pyproject.toml').read_text()
+    assert f'#define WARPLADLE_VERSION "{warpladle.__version__}"' in (ROOT / 'include' / 'warpladle.h').read_text()
 
 
 def test_completion(run, tmp_path):

@@ -2,7 +2,7 @@
 they read."""
 import sys
 
-__version__ = '0.2.0'
+__version__ = '1.0.0'
 
 if sys.version_info < (3, 10):
     _words = (

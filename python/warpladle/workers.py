@@ -59,7 +59,12 @@ class Worker:
         """The next item, whose result is then asked for."""
         if self.process == 0:
             self._start()
-        _send(self.to, item)
+        try:
+            _send(self.to, item)
+        except BrokenPipeError:  # someone ended it while it waited
+            self.end()
+            self._start()
+            _send(self.to, item)
 
     def _start(self) -> None:
         flush_output()

@@ -20,7 +20,8 @@ from .output import BadUsage
 
 READ_WHOLE = 64 << 20  # files below are read into memory, where no one can cut them short; larger ones are mapped
 READ_SOON = 1 << 20  # of many files those below are read; others are mapped, in a process of its own
-INPUTS = ('file', 'original', 'cut', 'record')  # arguments of commands that name one file to read
+INPUTS = ('file', 'original', 'cut', 'record', 'what')  # arguments of commands that name one file to read
+UTH_HEADER = 642  # bytes of a humidity file before its segments
 STANDARD = '-'
 
 _kept: dict[str, Any] = {}  # standard input, which can be read once
@@ -189,11 +190,9 @@ class _Judge:
 
 def is_no_humidity_file(data: bytearray, part: bytes) -> bool:
     """Whether every longer file that begins so is refused too."""
-    return len(data) - len(part) < 642 <= len(data) and answer('uth', data, bytearray(), bytearray())[0] not in (
-        0,
-        Refusal.ROOM,
-        Refusal.UTH_CUT,
-    )
+    if not len(data) - len(part) < UTH_HEADER <= len(data):  # asked once, when the header has come
+        return False
+    return answer('uth', data, bytearray(), bytearray())[0] not in (0, Refusal.ROOM, Refusal.UTH_CUT)
 
 
 def open_input(name: str, *, sparse: bool = False, read_below: int = READ_WHOLE, may_map: bool = True) -> Product:
@@ -218,9 +217,8 @@ def open_input(name: str, *, sparse: bool = False, read_below: int = READ_WHOLE,
 def _open_file(name: str, handle: int, about: os.stat_result, sparse: bool, is_large: bool, may_map: bool) -> Product:
     if is_large and not may_map:
         raise TooLarge(name)
-    come = (
-        about.st_size if sparse else surely_come(handle, about)
-    )  # before it is read: a hole that is filled later has not been
+    # before the bytes are read: a hole that is filled later is then still known
+    come = about.st_size if sparse else surely_come(handle, about)
     data = mmap.mmap(handle, 0, access=mmap.ACCESS_READ) if is_large else read_file(name, handle, about.st_size)
     product = _named(Product(data), name)
     return product if come == about.st_size else _before_hole(product, come)

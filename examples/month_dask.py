@@ -6,6 +6,9 @@ A report is a sum: each worker counts its files, the reports are added two by tw
 The files must have the same names on every machine, and each machine needs the package, with its shared library.
 Debian: python3-distributed, python3-numpy.
 
+`warpladle report --scheduler ADDRESS FILES..` does the same with the output of the command, and for more products than
+the 4,096 of a report.
+
     PYTHONPATH=python python3 examples/month_dask.py /data/2016-06/*.eps
     python3 examples/month_dask.py --scheduler tcp://10.0.0.1:8786 /data/2016-06/*.eps
 """

@@ -100,7 +100,7 @@ def test_an_old_python_is_a_sentence(environment, tmp_path, rich):
     (tmp_path / 'sitecustomize.py').write_text('import sys\nsys.version_info = (3, 9, 2, "final", 0)\n')
     old = {**environment, 'PYTHONPATH': f'{tmp_path}:{environment["PYTHONPATH"]}'}
     done = subprocess.run(command('check', rich), env=old, capture_output=True, text=True)
-    assert (done.returncode, done.stdout) == (1, '')
+    assert (done.returncode, done.stdout) == (2, '')
     assert (
         done.stderr == 'warpladle needs Python 3.10 or newer, and this is 3.9; PYTHON names another for ./warpladle\n'
     )

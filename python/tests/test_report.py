@@ -159,6 +159,7 @@ def test_reports_are_added(month, run):
             'warpladle: bad.json: it is no report that `report --json` wrote\n',
         )
     assert run('report', '--add', 'none.json').status == 2
+    assert run('report', '--add', '-', stdin=(month / 'all.json').read_bytes()).out == run('report', *NAMES).out
 
 
 def test_more_than_4096_products(rich, run, tmp_path):

@@ -10,5 +10,6 @@ if sys.version_info < (3, 10):
         % sys.version_info[:2]
     )
     if sys.argv and sys.argv[0] == '-m':  # the command: a line and no traceback
-        sys.exit(_words)
+        sys.stderr.write(_words + '\n')
+        sys.exit(2)
     raise ImportError(_words)

@@ -117,7 +117,9 @@ def _send(pipe: int, value: Any) -> None:
 
 def _let_signals_end() -> None:
     """Signals end this process at once, and so does the end of its parent: there is nothing to take away."""
-    ctypes.CDLL(None).prctl(PR_SET_PDEATHSIG, signal.SIGKILL)
+    prctl = getattr(ctypes.CDLL(None), 'prctl', None)  # of Linux
+    if prctl is not None:
+        prctl(PR_SET_PDEATHSIG, signal.SIGKILL)
     for ending in ENDINGS:
         signal.signal(ending, signal.SIG_DFL)
     signal.pthread_sigmask(signal.SIG_UNBLOCK, ENDINGS)
@@ -183,7 +185,7 @@ def run_in_child(call: Callable[[], int]) -> int | Died:
 def _status_of(process: int) -> int | Died:
     try:
         handle = os.pidfd_open(process)  # which can be read when the process has ended
-    except OSError:  # of an old kernel
+    except (OSError, AttributeError):  # of an old kernel, or of another system
         handle = -1
     if handle >= 0:
         with os.fdopen(handle, 'rb') as file:

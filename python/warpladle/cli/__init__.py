@@ -58,7 +58,7 @@ class Ended(BaseException):
 
 
 def module_of(name: str) -> Any:
-    """The module of a command."""
+    """The module of a command. (Once they are imported, `list` and `help` are modules of this package.)"""
     return importlib.import_module(f'.{name}', __name__)
 
 

@@ -99,7 +99,7 @@ class Output:
 
     @staticmethod
     def refusal_text(refused: Refused, about: str = '') -> str:
-        """`refused` or `incomplete`, the number, the place and the words, without the name of the file at their start."""
+        """`refused` or `incomplete`, number, place and words, without the name of the file at their start."""
         word = 'incomplete' if refused.state is State.INCOMPLETE else 'refused'
         return f'{word} {refused.number} {refused.place}: {refused.words.removeprefix(f"{about}: ")}'
 

@@ -15,7 +15,7 @@ from ..library import function
 from ..overview import Entry, Overview, count_file, count_files, cut_short
 from ..workers import Died, map_in_workers
 from .check import in_turn
-from .inputs import READ_SOON, a_count, add_files, add_force, add_json, add_sparse, named_files, open_input
+from .inputs import READ_SOON, STANDARD, a_count, add_files, add_force, add_json, add_sparse, named_files, open_input
 from .output import STATUS_OF, BadUsage, Output, Status, complain
 
 MORE = (
@@ -38,7 +38,7 @@ def add_arguments(parser: argparse.ArgumentParser) -> None:
         action='append',
         default=[],
         metavar='REPORT',
-        help='add what `report --json` wrote; may be said more than once',
+        help='add what `report --json` wrote, or - for standard input; may be said more than once',
     )
     parser.add_argument('--jobs', type=a_count, default=1, metavar='N', help='so many files at a time (1)')
     parser.add_argument(
@@ -79,7 +79,7 @@ def run(args: argparse.Namespace, output: Output) -> Status:
 def read_entries(path: str) -> list[Entry]:
     """The entries of a report that was written as JSON."""
     try:
-        with open(path, encoding='utf-8') as file:
+        with open(0 if path == STANDARD else path, encoding='utf-8', closefd=path != STANDARD) as file:
             entries = json.load(file)['entries']
         if not all(isinstance(entry['file'], str) and isinstance(entry['state'], str) for entry in entries):
             raise ValueError

@@ -8,10 +8,10 @@ import stat
 import tempfile
 from collections.abc import Callable, Iterator
 from contextlib import contextmanager
-from typing import Any, Union
+from typing import Any
 
-PathLike = Union[str, 'os.PathLike[str]']
-Buffer = Union[bytes, bytearray, memoryview, mmap.mmap]
+PathLike = str | os.PathLike[str]
+Buffer = bytes | bytearray | memoryview | mmap.mmap
 
 MOST = 1 << 31  # a product has fewer bytes
 PART = 1 << 16  # bytes of a stream that are read at a time

@@ -9,7 +9,7 @@ import os
 import struct
 from collections.abc import Callable, Iterator
 from datetime import datetime
-from typing import TYPE_CHECKING, Any, NamedTuple, Protocol, Union, overload
+from typing import TYPE_CHECKING, Any, NamedTuple, Protocol, overload
 
 from . import words
 from .files import Buffer, PathLike, beside, map_file, read_stream, room_of
@@ -43,7 +43,7 @@ ROW = [(name, 'u4') for name in COLUMNS]
 TIMES = [('start', 'M8[ms]'), ('stop', 'M8[ms]')]
 DAY_ZERO = 946_684_800_000  # 1 January 2000, in milliseconds from 1 January 1970
 
-Value = Union[int, str, datetime, Moment, None]
+Value = int | str | datetime | Moment | None
 
 
 class NoNumpy(ImportError):
@@ -98,9 +98,7 @@ class Product:
         self.path: str | None = os.fspath(source) if isinstance(source, (str, os.PathLike)) else None
         self._data: Any = map_file(self.path) if self.path is not None else _bytes(source)
         self.size: int = len(self._data)
-        self.hole: int | None = (
-            None  # where the file has a hole, so that what is beyond has not come; the command sets it
-        )
+        self.hole: int | None = None  # from where on the file's bytes have not surely come; the command sets it
 
     # ---- a thing of Python
 

@@ -95,8 +95,14 @@ class Report:
         from .summary import html_table
 
         of = self.as_dict()
-        first, *lines = report_lines(of)
-        return html_table([(f'{k + 1}', line) for k, line in enumerate(lines)], first)
+        lines = [('products', f'{of["products"]:,}'), ('accepted', f'{of["accepted"]:,}')]
+        lines += [
+            (f'refused with {number}', f'{count:,}: {MEANING[number]}') for number, count in of['refused'].items()
+        ]
+        lines += [(name, f'{of["records"][name]:,} records, {of["bytes"][name]:,} bytes') for name in CLASSES[1:]]
+        lines += [('gaps', f'{of["gap_ms"]:,} ms'), ('overlaps', f'{of["overlap_ms"]:,} ms')]
+        lines += [('pairs with an undefined time', f'{of["undefined_pairs"]:,}')]
+        return html_table(lines, repr(self))
 
     def as_dict(self) -> dict[str, Any]:
         """By name, for a program to read."""

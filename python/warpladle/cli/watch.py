@@ -23,7 +23,7 @@ MORE = (
     ' its name; its bytes from its first hole on have not come.'
 )
 POLL = 0.05  # seconds between two looks at a file that does not grow
-SETTLED = 1.0  # seconds after which a file that had holes is taken as written
+SETTLED = 2.0  # seconds after which a file that had holes is taken as written
 
 
 def add_arguments(parser: argparse.ArgumentParser) -> None:

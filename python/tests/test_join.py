@@ -89,11 +89,11 @@ def test_26_says_which_record_differs_and_from_which_byte_on():
     changed = bytearray(other)
     changed[at + 20 + 7] ^= 1
     refused = raised(Product(one).join, Product(bytes(changed)))
+    kind = 'number 1 of group 9, subclass 1'
     assert (
         refused.words
-        == f'expected two products of one kind, found GIADR 1 of the first, at {at}, and GIADR 1 of the second, at'
-        f' {at}, '
-        'which differ from byte 27 of the record on (byte 7 of the payload)'
+        == f'expected two products of one kind, found GIADR 1 of the first ({kind}), at {at}, and GIADR 1 of the second'
+        f' ({kind}), at {at}, which differ from byte 27 of the record on (byte 7 of the payload)'
     )
     changed = bytearray(other)
     changed[at + 3] = 9
@@ -109,7 +109,7 @@ def test_26_says_which_record_has_none_beside_it():
         for records, at in ((fixed, 0), (fixed[:2], 1000))
     )
     assert raised(one.join, other).words.endswith(
-        'found GIADR 2 of the first, at 3349, with none beside it in the second'
+        'found GIADR 2 of the first (number 1 of group 9, subclass 2), at 3349, with none beside it in the second'
     )
     assert raised(other.join, one).number == 26
 
@@ -119,10 +119,9 @@ def test_26_of_the_join_of_request_seven_says_that_it_was_asked_for():
     assert first.join(second).verdict == 41  # with two pointers
     refused = raised(first.join, second, identical=True)
     assert (
-        refused.number == 26
-        and 'SPHR 1 of the first, at 3307, and SPHR 1 of the second, at 3307, which differ from byte 11'
-        in refused.words
+        refused.number == 26 and 'found SPHR 1 of the first (number 1 of group 9, subclass 0), at 3307' in refused.words
     )
+    assert 'which differ from byte 11 of the record on (the start time)' in refused.words
     assert 'only the times of headers differ' in refused.words and '--identical was asked for' in refused.words
 
 

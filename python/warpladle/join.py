@@ -8,7 +8,7 @@ from typing import Any, NamedTuple
 
 from .files import PathLike
 from .headers import HEADER, RecordClass, class_name, read_header
-from .product import Product, named_inputs, write_product, written
+from .product import Product, Row, named_inputs, write_product, written
 from .refusal import Refusal, Refused
 from .times import Time, between
 
@@ -20,6 +20,9 @@ KEPT = ('ORBIT_END', 'SUBSAT_LATITUDE_END', 'SUBSAT_LONGITUDE_END', 'SENSING_END
 FIXED = (RecordClass.SPHR, RecordClass.GEADR, RecordClass.GIADR)
 TIMES = range(8, HEADER)  # the bytes of a header with its two times, which are those of its own product (002, Table 15)
 GAP = 1000  # milliseconds between two granules beyond which a user is told
+ONLY_TIMES = (
+    'only the times of headers differ, which are those of their own product; --identical was asked for (identical=True)'
+)
 ALLOWED = 1  # milliseconds by which granules of a pass may overlap, since times are rounded (002, 4.2.1.2.3)
 PARTS = (
     (1, 'the class'),
@@ -170,52 +173,47 @@ def unlike_lines(first: Product, second: Product, names: tuple[str, str]) -> str
     )
 
 
-def _fixed(product: Product) -> list[tuple[int, int, int, int]]:
-    """Class, which of its class, start and end of the SPHR and the global records."""
+class _Fixed(NamedTuple):
+    """An SPHR or a global record: its row, which of its class it is, and its bytes."""
+
+    row: Row
+    which: int
+    data: bytes
+
+    def words(self, name: str) -> str:
+        """Its class, which of its class and of its kind it is, and its place in the product of this name."""
+        kind = f'number {self.row.ordinal + 1} of group {self.row.group}, subclass {self.row.subclass}'
+        return f'{class_name(self.row.class_)} {self.which} of {name} ({kind}), at {self.row.start}'
+
+
+def _fixed(product: Product) -> list[_Fixed]:
+    """The SPHR and the global records of a product."""
     count: dict[int, int] = {}
     found = []
-    for start, size, class_, *_ in product.row_tuples():
-        count[class_] = count.get(class_, 0) + 1
-        if class_ in FIXED:
-            found.append((class_, count[class_], start, start + size))
+    for row in (Row(*numbers) for numbers in product.row_tuples()):
+        count[row.class_] = count.get(row.class_, 0) + 1
+        if row.class_ in FIXED:
+            found.append(_Fixed(row, count[row.class_], bytes(product.data[row.start : row.start + row.size])))
     return found
 
 
 def unlike_records(first: Product, second: Product, names: tuple[str, str], identical: bool) -> str:
     """The first of the SPHR and the global records that differs: its name, its place in each, the first byte."""
     ours, theirs = _fixed(first), _fixed(second)
-    only_times = []
-    for one, other in zip(ours, theirs):
-        at = first_difference(
-            bytes(first.data[one[2] : one[3]]), bytes(second.data[other[2] : other[3]]), not identical
-        )
-        if at is None:
-            continue
-        if (
-            identical
-            and first_difference(bytes(first.data[one[2] : one[3]]), bytes(second.data[other[2] : other[3]]), True)
-            is None
-        ):
-            only_times.append(_pair_words(one, other, names, at))
-            continue
-        return _pair_words(one, other, names, at)
+    differing = [(one, other) for one, other in zip(ours, theirs) if one.data != other.data]
+    for one, other in differing:
+        if first_difference(one.data, other.data, True) is not None:
+            return _pair_words(one, other, names, first_difference(one.data, other.data, not identical))
     if len(ours) != len(theirs):
         longer, name, other_name = (ours, *names) if len(ours) > len(theirs) else (theirs, *names[::-1])
-        class_, which, start, _ = longer[min(len(ours), len(theirs))]
-        return f'{class_name(class_)} {which} of {name}, at {start}, with none beside it in {other_name}'
-    times = (
-        'only the times of headers differ, which are those of their own product; --identical was asked for'
-        ' (identical=True)'
-    )
-    return f'{only_times[0]}; {times}' if only_times else 'other records'
+        return f'{longer[min(len(ours), len(theirs))].words(name)}, with none beside it in {other_name}'
+    one, other = differing[0]
+    return f'{_pair_words(one, other, names, first_difference(one.data, other.data, False))}; {ONLY_TIMES}'
 
 
-def _pair_words(one: tuple[int, ...], other: tuple[int, ...], names: tuple[str, str], at: int) -> str:
-    kind, other_kind = (f'{class_name(record[0])} {record[1]}' for record in (one, other))
-    return (
-        f'{kind} of {names[0]}, at {one[2]}, and {other_kind} of {names[1]}, at {other[2]}, '
-        f'which differ from byte {at} of the record on ({part_name(at)})'
-    )
+def _pair_words(one: _Fixed, other: _Fixed, names: tuple[str, str], at: int | None) -> str:
+    both = f'{one.words(names[0])}, and {other.words(names[1])}'
+    return f'{both}, which differ from byte {at} of the record on ({part_name(at or 0)})'
 
 
 def part_name(at: int) -> str:

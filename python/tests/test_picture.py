@@ -3,6 +3,7 @@ import io
 import subprocess
 import sys
 import xml.etree.ElementTree as tree
+from datetime import timedelta
 
 import numpy
 import pytest
@@ -10,7 +11,7 @@ from making import DAY, granule, product, record
 
 from warpladle import Overview, Product, Report, Time
 from warpladle.charts import picture_of_overview, picture_of_report
-from warpladle.drawing import GAP, MARK, clock_ticks, merged, widened
+from warpladle.drawing import COLOURS, GAP, MARK, clock_ticks, merged, widened
 from warpladle.overview import count_product
 from warpladle.picture import picture_of_product, runs, see, spans
 from warpladle.times import day_length
@@ -77,10 +78,14 @@ def test_bars_too_near_to_tell_apart_are_drawn_as_one():
 
 
 def test_clock_times():
-    assert clock_ticks(3_600_000, 3_780_000) == [1000 * (3600 + 30 * k) for k in range(7)]
-    assert clock_ticks(0, 79_200_000)[:3] == [0, 10_800_000, 21_600_000] and all(
-        len(clock_ticks(17, 17 + 3.7**k)) <= 11 for k in range(2, 20)
-    )
+    assert clock_ticks(DAY, 3_600_000, 3_780_000) == [1000 * (3600 + 30 * k) for k in range(7)]
+    assert clock_ticks(DAY, 0, 79_200_000)[:3] == [0, 10_800_000, 21_600_000]
+    for k in range(2, 20):
+        assert 1 <= len(clock_ticks(DAY, 17, 17 + 3.7**k)) <= 11 or k < 3
+    # from many days on at midnights, leap seconds or not
+    year = clock_ticks(6000, 0, 366 * 86_400_000)
+    assert [(Time(6000, 0) + timedelta(milliseconds=tick)).milli for tick in year] == [0] * len(year) and len(year) == 9
+    assert year[-1] % 86_400_000 == 1000  # beyond the end of 2016
 
 
 def test_a_product_s_picture(samples):
@@ -241,6 +246,15 @@ def test_an_overview_s_picture():
         assert any(text in word for word in words), (text, words)
     assert columns_of(picture_of_overview(overview, 'png'), GAP) >= 2
     assert texts(picture_of_overview(Overview()))
+
+
+def test_products_far_apart_are_seen():
+    """Three minutes each, eleven years apart."""
+    early = granule(0, SENSING_START='20050101000000Z', SENSING_END='20050101000300Z')
+    overview = Overview(
+        [count_product('a', Product(early)), count_product('b', Product(granule(1, SPACECRAFT_ID='M01')))]
+    )
+    assert columns_of(picture_of_overview(overview, 'png'), COLOURS[8], slice(40, 190)) >= 4
 
 
 def test_the_command(rich, environment, tmp_path, run):

@@ -3,7 +3,7 @@ from __future__ import annotations
 
 from typing import TYPE_CHECKING, Any
 
-from .drawing import COLOURS, FINEST, GAP, LEAST, OVERLAP, bytes_of, draw_clock, new_figure, widened
+from .drawing import COLOURS, GAP, LEAST, OVERLAP, bytes_of, draw_clock, new_figure, widened
 from .headers import CLASSES
 from .refusal import MEANING
 from .report import Report, named_numbers
@@ -14,6 +14,7 @@ if TYPE_CHECKING:
 
 STATES = {'whole': '#2e7d32', 'incomplete': '#f9a825', 'refused': '#c62828', 'error': '#6d4c41'}
 REASONS = 14  # names of refused products that a picture has room for
+LONGEST = 185  # characters of a reason
 WITH_COUNTS = 16  # days beyond which the numbers over their bars would run into each other
 
 
@@ -23,7 +24,7 @@ def _bars_by_class(axes: Any, name: str, numbers: dict[str, int]) -> None:
     most = max([*numbers.values(), 1])
     for k, class_ in enumerate(CLASSES[1:]):
         axes.text(numbers[class_] + most / 60, k, f'{numbers[class_]:,}', va='center', fontsize=7)
-    axes.set(xlim=(0, 1.35 * most), xticks=[])
+    axes.set(xlim=(0, 1.55 * most), xticks=[])
     axes.set_title(name, fontsize=9)
     axes.tick_params(labelsize=8)
     axes.invert_yaxis()
@@ -111,7 +112,7 @@ def _products_along_time(axes: Any, overview: Overview) -> None:
 def _draw_series(axes: Any, bars: dict[tuple[str, ...], list[tuple[int, int]]], width: float) -> None:
     """A row of bars for each series."""
     for k, lengths in enumerate(bars.values()):
-        drawn = widened([(start, stop - start) for start, stop in lengths], width / FINEST)
+        drawn = widened([(start, stop - start) for start, stop in lengths], width / LEAST)
         axes.broken_barh(drawn, (k + 0.05, 0.9), facecolors=COLOURS[8])
 
 
@@ -169,4 +170,4 @@ def _reason(entry: dict[str, Any]) -> str:
         else f'{entry["refusal"]["number"]} at {entry["refusal"]["place"]}: {entry["refusal"]["words"]}'
     )
     text = f'{entry["state"]}: {name}: {why}'
-    return text if len(text) <= 165 else text[:163] + '..'
+    return text if len(text) <= LONGEST else text[: LONGEST - 2] + '..'

@@ -11,15 +11,15 @@ from typing import Any
 
 from .files import PathLike, write_beside
 from .product import import_numpy
-from .times import Time
+from .times import Time, between
 
 SUFFIXES = ('svg', 'png', 'pdf', 'jpg')
 COLOURS = ('', '#4e4e4e', '#9c9c9c', '#d4a017', '#2e7d32', '#81c784', '#6a1b9a', '#ba68c8', '#1565c0')
 GAP, OVERLAP, DUMMY, MARK = '#c62828', '#ef6c00', '#b0bec5', '#c62828'
 FINEST = 2000  # of a picture's width so many parts can be told apart: bars that are nearer are drawn as one
 LEAST = 300  # a gap or an overlap is drawn at least a 300th of the width, which is more than two pixels
-STEPS = (1, 2, 5, 10, 15, 30, 60, 120, 300, 600, 900, 1800, 3600, 7200, 10800, 21600, 43200, 86400)  # seconds
-FINE_STEPS = (1, 2, 5, 10, 20, 50, 100, 200, 500, 1000)  # milliseconds
+SECONDS = (1, 2, 5, 10, 15, 30, 60, 120, 300, 600, 900, 1800, 3600, 7200, 10800, 21600, 43200)
+STEPS = (1, 2, 5, 10, 20, 50, 100, 200, 500, *(1000 * step for step in SECONDS))  # milliseconds between ticks
 TICKS = 9
 
 
@@ -99,35 +99,40 @@ def widened(bars: list[tuple[float, float]], least: float) -> list[tuple[float, 
 
 
 def draw_clock(axes: Any, day: int | None, low: float, high: float) -> None:
-    """Ticks at round clock times, and the day beneath."""
+    """Ticks at round clock times, and the day beneath; from many days on at midnights. Times are milliseconds from the
+    first midnight of a day."""
     if day is None:
         axes.set(xticks=[])
         axes.set_xlabel('no MDR with a defined time', fontsize=8)
         return
-    ticks = clock_ticks(low, high)
-    times = [Time(day, 0) + timedelta(milliseconds=tick) for tick in ticks]
-    same_day = len({time.day for time in times} | {day}) == 1
-    labels = [_tick_text(time, same_day, ticks) for time in times]
-    axes.set(xticks=ticks, xticklabels=labels)
-    axes.set_xlabel(
-        f'UTC, {Time(day, 0).isoformat()[:10]}' if same_day else f'UTC, from {Time(day, 0).isoformat()[:10]} on',
-        fontsize=8,
-    )
+    ticks = clock_ticks(day, low, high)
+    times = [_time_at(day, tick) for tick in ticks]
+    is_one_day = all(time.day == day for time in times)
+    axes.set(xticks=ticks, xticklabels=_tick_texts(times, is_one_day))
+    date = Time(day, 0).isoformat()[:10]
+    axes.set_xlabel(f'UTC, {date}' if is_one_day else f'UTC, from {date} on', fontsize=8)
 
 
-def clock_ticks(low: float, high: float) -> list[int]:
-    """Milliseconds from midnight at which a tick stands: at most nine, on round clock times."""
-    span = high - low
-    step = next((1000 * step for step in STEPS if span <= 1000 * step * TICKS), None)
-    if span < TICKS * 1000:
-        step = next(step for step in FINE_STEPS if span <= step * TICKS)
-    if step is None:
-        step = 86_400_000 * -(-int(span) // (86_400_000 * TICKS))
-    return list(range(-(-int(low) // step) * step, int(high) + 1, step))
+def _time_at(day: int, millis: float) -> Time:
+    time: Time = Time(day, 0) + timedelta(milliseconds=int(millis))
+    return time
 
 
-def _tick_text(time: Time, same_day: bool, ticks: list[int]) -> str:
-    text = time.isoformat()
-    is_fine = len(ticks) > 1 and (ticks[1] - ticks[0]) % 1000
-    clock = text[11:23] if is_fine else text[11:19]
-    return clock if same_day else f'{text[5:10]}\n{clock}'
+def clock_ticks(day: int, low: float, high: float) -> list[int]:
+    """Where a tick stands, some nine at most, on round clock times."""
+    step = next((step for step in STEPS if high - low <= step * TICKS), None)
+    if step is not None:
+        return list(range(-(-int(low) // step) * step, int(high) + 1, step))
+    first, last = _time_at(day, low).day, _time_at(day, high).day
+    every = -(-(last - first + 1) // TICKS)
+    midnights = [between(Time(day, 0), Time(k, 0)) for k in range(first, last + 1, every)]
+    return [at for at in midnights if low <= at <= high]
+
+
+def _tick_texts(times: list[Time], is_one_day: bool) -> list[str]:
+    """Clock times, with the date if there is more than one, or dates alone if all are midnights."""
+    texts = [time.isoformat() for time in times]
+    if not is_one_day and all(time.milli == 0 for time in times):
+        return [text[:10] for text in texts]
+    end = 23 if any(time.milli % 1000 for time in times) else 19
+    return [text[11:end] if is_one_day else f'{text[5:10]}\n{text[11:end]}' for text in texts]

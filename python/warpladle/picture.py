@@ -25,6 +25,7 @@ from .times import day_length
 from .words import UNDEFINED, declared, walk, what_it_is
 
 SHOWN_ONE_BY_ONE = 400  # beyond so many records the lines between them would hide what they part
+SEEN = 1000  # an MDR is drawn at least a 1,000th of the width, which is a pixel
 WIDEST = 120  # characters of a line in a picture
 POINTERS = (Refusal.TARGET, Refusal.POINTS_INSIDE, Refusal.POINTS_AT_OTHER)
 
@@ -243,7 +244,8 @@ def _along_time(axes: Any, seen: Seen) -> None:
 
 
 def _draw_mdrs(axes: Any, bars: Any, width: float, colour: str, name: str) -> None:
-    axes.broken_barh(merged(bars, width / FINEST), (2, 0.9), facecolors=colour, label=f'{name} {len(bars):,}')
+    drawn = widened(merged(bars, width / FINEST), width / SEEN)
+    axes.broken_barh(drawn, (2, 0.9), facecolors=colour, label=f'{name} {len(bars):,}')
 
 
 def _draw_between(axes: Any, bars: Any, width: float, level: int, colour: str, name: str) -> None:

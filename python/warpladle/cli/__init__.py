@@ -29,6 +29,7 @@ COMMANDS = {
     'fields': 'Show fields of the main header.',
     'explain': 'Explain a refusal by its number, or why a file is refused.',
     'watch': 'Watch a product arrive.',
+    'intake': 'Take in a folder of arriving products.',
     'cut': 'Cut a product to a window of time.',
     'join': 'Join products that follow each other.',
     'compare': 'Say whether one product is a cut of another.',

@@ -21,6 +21,10 @@ def words(tmp_path, rich, samples):
     for k in (0, 1):
         (tmp_path / f'{k}.eps').write_bytes(granule(k))
     (tmp_path / 'rich.eps').write_bytes(rich.read_bytes())
+    for name in ('accepted', 'refused'):
+        (tmp_path / name).mkdir()
+    day = granule(0, SENSING_START='20160605000000Z', SENSING_END='20160606000000Z')
+    (tmp_path / 'accepted' / 'day.eps').write_bytes(day)
     from warpladle import record_arrival
 
     (tmp_path / 'arrival').write_bytes(record_arrival([4000, 356], rich.read_bytes()))
@@ -31,6 +35,7 @@ def words(tmp_path, rich, samples):
             'cut': ['cut', 'rich.eps', *TOWN, '-o', 'cut.eps', '--force'],
             'join': ['join', '0.eps', '1.eps', '-o', 'join.eps', '--force'],
             'level0': ['level0', samples / 'example.eps'],
+            'overview': ['overview', '2016-06-05', '--accepted', 'accepted', '--refused', 'refused'],
             'picture': ['picture', 'rich.eps', 'p.svg', '--force', '--json'],
             'replay': ['replay', 'arrival', 'rich.eps'],
             'uth': ['uth', samples / 'humidity.uth'],

@@ -39,11 +39,11 @@ def count_product(name: str, product: Product) -> Entry:
     if refused is not None:
         entry['refusal'] = refused.as_dict()
     entry['numbers'] = report.numbers
-    entry.update(_header_of(product))
+    entry.update(header_of(product))
     return entry
 
 
-def _header_of(product: Product) -> Entry:
+def header_of(product: Product) -> Entry:
     """What the main header says that an overview asks for, where it can be read."""
     from .refusal import Refused
 

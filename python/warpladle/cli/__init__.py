@@ -34,6 +34,7 @@ COMMANDS = {
     'join': 'Join products that follow each other.',
     'compare': 'Say whether one product is a cut of another.',
     'report': 'Count products: records, bytes, gaps, overlaps, what is refused and what is missing.',
+    'overview': 'Say whether a day of an intake is whole, on one page.',
     'picture': 'Draw a product.',
     'level0': 'Judge finished products by the Level 0 profile.',
     'uth': 'Show the blocks of a humidity file.',

@@ -218,6 +218,7 @@ def test_refused_given_up_in_conflict(folders, run):
     assert f'incomplete: {other}: 17 3400: expected more' in lines
     assert f'conflict: {folders.names[0]}: other bytes' in lines and 'checksum: sum: another sum' in lines
     assert facts(folders, run)[1]['aside'][1] == {
+        'file': name,
         'name': name,
         'state': 'refused',
         'number': 16,
@@ -238,7 +239,7 @@ def test_a_day_that_cannot_be_read_is_that_on_which_it_was_last_seen(folders, ru
 def test_what_came_whole_since_is_no_fault(folders, run):
     folders.put_aside(folders.names[1], b'<html>', number=1, place=0, last_seen='2016-06-05T09:00:00Z')
     done = run(*folders.words)
-    assert done.status == 0 and f'refused: {folders.names[1]}: 1 0: w; a whole one is accepted' in done.out
+    assert done.status == 0 and f'refused: {folders.names[1]}: 1 0: w; a whole one of this name is accepted' in done.out
 
 
 def test_a_file_without_a_note_and_a_note_without_its_file(folders, run):
@@ -258,7 +259,7 @@ def test_what_stands_beside_a_file_that_was_put_aside_is_no_other(folders, run):
     for more in ('arrival', 'md5', 'sha256'):
         (folders.refused / f'{name}.2.{more}').write_bytes(b'')
     (folders.refused / '.hidden').write_bytes(b'')
-    assert [one['name'] for one in facts(folders, run)[1]['aside']] == [name]
+    assert [(one['file'], one['name']) for one in facts(folders, run)[1]['aside']] == [(f'{name}.2', name)]
 
 
 def test_what_stands_in_accepted_is_judged(folders, run):
@@ -340,6 +341,30 @@ def test_what_still_waits(folders, run):
     assert run(*folders.words).status == 0
     (folders.accepted / folders.names[1]).unlink()
     assert facts(folders, run, '--incoming', folders.incoming)[0] == 1
+
+
+def test_a_file_without_permission_waits_too(folders, tmp_path, monkeypatch):
+    def forbid(path, *given, **named):
+        if str(path).startswith(str(folders.incoming)):
+            raise PermissionError(13, 'Permission denied', path)
+        return open(path, *given, **named)
+
+    (folders.incoming / 'mine').write_bytes(b'12345')
+    os.utime(folders.incoming / 'mine', (1465092000, 1465092000))
+    monkeypatch.setattr('warpladle.day.open', forbid, raising=False)
+    found = day_of(DAY, str(folders.accepted), str(folders.refused), incoming=str(folders.incoming))
+    assert found.state is DayState.WAITING and found.waiting == [('mine', 5, None, '2016-06-05T02:00:00Z')]
+
+
+def test_folders_within_the_incoming_one_do_not_wait(folders, run):
+    assert facts(folders, run, '--incoming', folders.root)[1]['waiting'] == []
+
+
+def test_products_that_someone_has_sorted(folders, run):
+    (folders.accepted / 'morning').mkdir()
+    os.rename(folders.accepted / folders.names[0], folders.accepted / 'morning' / folders.names[0])
+    status, value = facts(folders, run)
+    assert status == 0 and value['entries'][-1]['file'] == f'morning/{folders.names[0]}'
 
 
 def test_holes_have_not_come(folders, run):

@@ -49,8 +49,10 @@ class DayState(str, Enum):
 
 
 class Aside(NamedTuple):
-    """A file that was put aside, and why. `is_accepted` says that a whole product of its name is accepted."""
+    """A file that was put aside, the name under which it came, and why. `is_accepted` says that a whole product of that
+    name is accepted."""
 
+    file: str
     name: str
     state: str
     number: int | None
@@ -251,7 +253,12 @@ def between_text(day: str, found: dict[str, Any]) -> str:
 def aside_text(one: Aside) -> str:
     """A file that was put aside, and why."""
     number = '' if one.number is None else f'{one.number} {one.place}: '
-    return f'{one.state}: {shown(one.name)}: {number}{one.words}{"" if one.is_fault else "; a whole one is accepted"}'
+    return f'{one.state}: {shown(one.file)}: {number}{aside_words(one)}'
+
+
+def aside_words(one: Aside) -> str:
+    """Why a file was put aside, and whether the day lacks it."""
+    return one.words if one.is_fault else f'{one.words}; a whole one of this name is accepted'
 
 
 def awaited_text(one: Awaited) -> str:
@@ -288,8 +295,8 @@ def day_of(
     Raises OSError where a folder or a log cannot be read.
     """
     time = now or datetime.now(timezone.utc)
-    names = list(_files_in(accepted))
-    heads = {name: head for name in names for head in [_head_of(accepted, name, day)] if head}
+    names = list(_files_under(accepted))
+    heads = {name: head for name in names for head in [_header_near(accepted, name, day)] if head}
     entries = _counted(accepted, [name for name in heads if heads[name]['day'] == day], count)
     whole = [entry for entry in entries if entry['state'] == 'whole']
     around = [{'file': name, 'state': 'whole', **head} for name, head in heads.items() if head['day'] != day]
@@ -311,46 +318,66 @@ def day_of(
     )
 
 
-def _files_in(folder: str) -> Iterator[str]:
-    """The regular files of a folder and of its folders, but for hidden ones, by their names in it."""
+def _files_in(folder: str) -> list[str]:
+    """The regular files of a folder, but for hidden ones."""
+    with os.scandir(folder) as found:
+        return sorted(entry.name for entry in found if not entry.name.startswith('.') and entry.is_file())
+
+
+def _files_under(folder: str) -> Iterator[str]:
+    """The same of a folder and its folders, by their names in it: whoever keeps products may sort them."""
     os.scandir(folder).close()  # os.walk is silent about a folder that is not there
-    for path, folders, names in os.walk(folder):
+    for path, folders, _ in os.walk(folder):
         folders[:] = sorted(name for name in folders if not name.startswith('.'))
-        for name in sorted(names):
-            if not name.startswith('.') and os.path.isfile(os.path.join(path, name)):
-                yield os.path.relpath(os.path.join(path, name), folder)
+        yield from (os.path.relpath(os.path.join(path, name), folder) for name in _files_in(path))
 
 
-def _main_header(path: str) -> tuple[Product, os.stat_result]:
-    """What has surely come of a file's main header."""
-    with open(path, 'rb', buffering=0) as file:
-        about = os.fstat(file.fileno())
-        come = surely_come(file.fileno(), about)
-        return Product(os.pread(file.fileno(), min(come, HEAD), 0)), about
+class _Head(NamedTuple):
+    """What has surely come of a file's main header, how much of the file has come, and when the last did."""
+
+    header: Product
+    come: int
+    changed: float
+
+    @staticmethod
+    def of(path: str) -> _Head:
+        """Of a file that cannot be read, nothing of its header."""
+        about = os.stat(path)
+        try:
+            with open(path, 'rb', buffering=0) as file:
+                come = surely_come(file.fileno(), os.fstat(file.fileno()))
+                return _Head(Product(os.pread(file.fileno(), min(come, HEAD), 0)), come, about.st_mtime)
+        except PermissionError:
+            return _Head(Product(b''), about.st_size, about.st_mtime)
+
+    @property
+    def sensing_day(self) -> str | None:
+        """The date of SENSING_START, where it can be read."""
+        try:
+            return (iso_text(self.header.field('SENSING_START')) or '')[:10] or None
+        except Refused:
+            return None
+
+    @property
+    def last_day(self) -> str:
+        """The date on which the file was last written."""
+        return datetime.fromtimestamp(self.changed, timezone.utc).isoformat()[:10]
+
+    @property
+    def declared(self) -> int | None:
+        """The size that the product declares, where it can be read."""
+        try:
+            return self.header.number('ACTUAL_PRODUCT_SIZE')
+        except Refused:
+            return None
 
 
-def _sensing_day(header: Product) -> str | None:
-    """The date of SENSING_START, where it can be read."""
-    try:
-        return (iso_text(header.field('SENSING_START')) or '')[:10] or None
-    except Refused:
-        return None
-
-
-def _date_of(seconds: float) -> str:
-    return datetime.fromtimestamp(seconds, timezone.utc).isoformat()[:10]
-
-
-def _head_of(folder: str, name: str, day: str) -> Entry | None:
-    """What the main header of an accepted product says, if it is of the day, the one before or the one after. What
-    cannot be read is of the day, so that it is told."""
-    try:
-        header, about = _main_header(os.path.join(folder, name))
-    except OSError:
-        return {'day': day}
-    own = _sensing_day(header) or _date_of(about.st_mtime)
+def _header_near(folder: str, name: str, day: str) -> Entry | None:
+    """What the main header of an accepted product says, if it is of the day, the one before or the one after."""
+    head = _Head.of(os.path.join(folder, name))
+    own = head.sensing_day or head.last_day
     near = [(datetime.fromisoformat(day) + timedelta(days=k)).isoformat()[:10] for k in (-1, 0, 1)]
-    return {'day': own, **header_of(header)} if own in near else None
+    return {'day': own, **header_of(head.header)} if own in near else None
 
 
 def _counted(folder: str, names: list[str], count: Count) -> list[Entry]:
@@ -422,10 +449,14 @@ def _cut_to(day: str, found: dict[str, Any]) -> dict[str, Any] | None:
 def _not_whole(overview: Overview) -> list[Aside]:
     """What stands in --accepted and is not accepted: someone else put it there."""
     return [
-        Aside(entry['file'], state, **entry['refusal'], seen=None, is_accepted=False)
+        Aside(entry['file'], entry['file'], state, **_in_accepted(entry['refusal']), seen=None, is_accepted=False)
         for state in ('refused', 'incomplete')
         for entry in overview.of_state(state)
     ]
+
+
+def _in_accepted(refusal: dict[str, Any]) -> dict[str, Any]:
+    return {**refusal, 'words': f'it stands in --accepted: {refusal["words"]}'}
 
 
 def _asides(folder: str, day: str, accepted: set[str]) -> list[Aside]:
@@ -459,10 +490,10 @@ def _is_beside(name: str, notes: dict[str, Any]) -> bool:
 
 def _aside_day(folder: str, name: str, note: dict[str, Any]) -> str | None:
     try:
-        header, about = _main_header(os.path.join(folder, name))
+        head = _Head.of(os.path.join(folder, name))
     except FileNotFoundError:
         return _last_day(note)
-    return _sensing_day(header) or _last_day(note) or _date_of(about.st_mtime)
+    return head.sensing_day or _last_day(note) or head.last_day
 
 
 def _last_day(note: dict[str, Any]) -> str | None:
@@ -472,11 +503,13 @@ def _last_day(note: dict[str, Any]) -> str | None:
 def _aside(name: str, note: dict[str, Any], accepted: set[str]) -> Aside:
     """A file that was put aside, by its note."""
     if not note:
-        return Aside(name, 'unknown', None, None, 'there is no note of it', None, name in accepted)
+        return Aside(name, name, 'unknown', None, None, 'there is no note of it', None, name in accepted)
     told = str(note.get('name') or name)
     state = note['state'] if note['state'] in STATES else 'unknown'
     words = str(note.get('words') or note.get('meaning') or note['state'])
-    return Aside(told, state, note.get('number'), note.get('place'), words, note.get('last_seen'), told in accepted)
+    return Aside(
+        name, told, state, note.get('number'), note.get('place'), words, note.get('last_seen'), told in accepted
+    )
 
 
 def _several(overview: Overview) -> list[Twice]:
@@ -566,17 +599,10 @@ def _awaited(folder: str, day: str) -> list[Awaited]:
 def _awaited_file(folder: str, name: str, day: str) -> Awaited | None:
     """A file that still waits, if it is of the day; one that an intake has just taken does not."""
     try:
-        with open(os.path.join(folder, name), 'rb', buffering=0) as file:
-            about = os.fstat(file.fileno())
-            come = surely_come(file.fileno(), about)
-        header, _ = _main_header(os.path.join(folder, name))
+        head = _Head.of(os.path.join(folder, name))
     except FileNotFoundError:
         return None
-    if (_sensing_day(header) or _date_of(about.st_mtime)) != day:
+    if (head.sensing_day or head.last_day) != day:
         return None
-    try:
-        declared = header.number('ACTUAL_PRODUCT_SIZE')
-    except Refused:
-        declared = None
-    since = datetime.fromtimestamp(int(about.st_mtime), timezone.utc)
-    return Awaited(name, come, declared, iso_text(since))
+    since = datetime.fromtimestamp(int(head.changed), timezone.utc)
+    return Awaited(name, head.come, head.declared, iso_text(since))

@@ -11,7 +11,7 @@ from collections.abc import Iterable, Sequence
 from typing import Any
 
 from .about import __version__
-from .day import Day, DayState, Row, clock_text, counted, length_text, line_ms, row_text, shown
+from .day import Day, DayState, Row, aside_words, clock_text, counted, length_text, line_ms, row_text, shown
 from .headers import CLASSES
 from .overview import Entry
 from .report import named_numbers
@@ -311,14 +311,7 @@ def _products_table(day: Day, row: Row) -> str:
 def _not_accepted(day: Day) -> list[str]:
     """What was refused, given up, in conflict or twice, and what cannot be read."""
     rows: list[tuple[str, ...]] = [
-        (
-            one.name,
-            one.state,
-            _or_none(one.number),
-            _or_none(one.place),
-            _reason(one.words, one.is_fault),
-            one.seen or '',
-        )
+        (one.file, one.state, _or_none(one.number), _or_none(one.place), aside_words(one), one.seen or '')
         for one in day.aside
     ]
     rows += [(one.name, 'twice', '', '', one.words, one.seen or '') for one in day.twice]
@@ -347,10 +340,6 @@ def _not_accepted(day: Day) -> list[str]:
 
 def _or_none(number: int | None) -> str:
     return '' if number is None else f'{number}'
-
-
-def _reason(words: str, is_fault: bool) -> str:
-    return words if is_fault else f'{words}; a whole one of this name is accepted'
 
 
 def _latency(day: Day) -> list[str]:

@@ -13,9 +13,11 @@ from functools import partial
 from http.server import SimpleHTTPRequestHandler, ThreadingHTTPServer
 
 import pytest
+from conftest import ROOT
 from making import granule
 
-from warpladle.day import DayState, clock_text, day_of, length_text
+from warpladle.cli import COMMANDS, parser_of
+from warpladle.day import STATES, DayState, clock_text, day_of, length_text
 from warpladle.overview import count_files, unreadable
 from warpladle.page import page_of_day
 
@@ -429,6 +431,54 @@ def test_lengths_and_clocks():
     assert clock_text(DAY, '2016-06-05T01:02:03Z') == '01:02:03'
     assert clock_text(DAY, '2016-06-06T00:00:00Z') == '24:00:00'
     assert clock_text(DAY, '2016-06-06T00:00:01Z') == '2016-06-06T00:00:01Z'
+
+
+# ---- with the intake, as the operator's page has it
+
+OPERATOR = ROOT / 'docs' / 'OPERATOR.md'
+
+
+def test_what_the_intake_leaves(tmp_path, run):
+    folders = Folders(tmp_path)
+    for k in range(4):
+        name, data = sensed(k * QUARTER, QUARTER)
+        (folders.incoming / name).write_bytes(data + b'!' * (k == 2))
+    (folders.incoming / 'half').write_bytes(data[:3400])
+    words = ['--accepted', folders.accepted, '--refused', folders.refused, '--log', 'intake.log']
+    assert run('intake', folders.incoming, *words, '--once', '--settle', '0', '--record').status == 0
+    status, value = facts(folders, run, '--log', 'intake.log', '--incoming', folders.incoming)
+    assert status == 1 and value['latency']['products'] == 3
+    (aside,) = value['aside']
+    assert (aside['state'], aside['number'], aside['place']) == ('refused', 16, len(data)) and aside['seen']
+    assert [one['name'] for one in value['waiting']] == ['half']
+    (folders.incoming / 'half').unlink()
+    shown = run(*folders.words, '--incoming', folders.incoming).out.splitlines()
+    example = re.search(r'\$ warpladle overview .*\n    (.*)\n    (.*)\n', OPERATOR.read_text())
+    assert shown[:2] == list(example.groups())
+
+
+def test_what_came_again_by_the_intake(folders, run):
+    name = folders.names[0]
+    words = ['--accepted', folders.accepted, '--refused', folders.refused, '--log', 'intake.log']
+    for data in ((folders.accepted / name).read_bytes(), sensed(0, QUARTER, ORBIT_START=7)[1]):
+        (folders.incoming / name).write_bytes(data)
+        assert run('intake', folders.incoming, *words, '--once', '--settle', '0').status == 0
+    done = run(*folders.words, '--log', 'intake.log')
+    assert done.status == 1 and f'twice: {name}: came again 1 time with the same bytes' in done.out
+    assert 'The day is not whole: 1 in conflict.' in done.out and 'another product of this name' in done.out
+
+
+def test_the_operators_page():
+    """It names its reader first, every option that it shows is one, and every state is in it."""
+    text = OPERATOR.read_text()
+    assert text.startswith('# For the operator')
+    commands = re.findall(r'^    .*warpladle (\w+) (.*)$', text, re.M)
+    assert {name for name, _ in commands} >= {'intake', 'overview'}
+    for name, words in commands:
+        known = {option for action in parser_of(name)._actions for option in action.option_strings}
+        assert name in COMMANDS and set(re.findall(r'(?<= )--?[a-z-]+', words)) <= known, words
+    for state in set(STATES) - {'unknown'}:
+        assert f'| `{state}` |' in text, state
 
 
 # ---- the page

@@ -19,7 +19,7 @@ from making import granule
 from warpladle.cli import COMMANDS, parser_of
 from warpladle.day import STATES, DayState, clock_text, day_of, length_text
 from warpladle.overview import count_files, unreadable
-from warpladle.page import page_of_day
+from warpladle.page import STYLE, page_of_day
 
 DAY = '2016-06-05'
 QUARTER = 6 * 3600  # seconds: four products of a quarter make a day
@@ -242,6 +242,7 @@ def test_what_came_whole_since_is_no_fault(folders, run):
     folders.put_aside(folders.names[1], b'<html>', number=1, place=0, last_seen='2016-06-05T09:00:00Z')
     done = run(*folders.words)
     assert done.status == 0 and f'refused: {folders.names[1]}: 1 0: w; a whole one of this name is accepted' in done.out
+    assert 'The day is whole: 4 products, nothing missing, a whole one is accepted of 1 put aside.' in done.out
 
 
 def test_a_file_without_a_note_and_a_note_without_its_file(folders, run):
@@ -535,6 +536,30 @@ def test_the_page_is_well_formed_and_has_headers(page):
     assert text.count('scope="row"') == sum(
         row.count('<tr>') for row in re.findall(r'<tbody>(.*?)</tbody>', text, re.S)
     )
+
+
+def luminance(colour):
+    """As WCAG 2 has it."""
+    parts = [int(colour[at : at + 2], 16) / 255 for at in (1, 3, 5)]
+    red, green, blue = (part / 12.92 if part <= 0.03928 else ((part + 0.055) / 1.055) ** 2.4 for part in parts)
+    return 0.2126 * red + 0.7152 * green + 0.0722 * blue
+
+
+def contrast(one, other):
+    less, more = sorted((luminance(one), luminance(other)))
+    return (more + 0.05) / (less + 0.05)
+
+
+@pytest.mark.parametrize('scheme', [0, 1])
+def test_contrast(scheme):
+    """Of texts 4.5 or more, of bars 3 or more: WCAG 2.1, 1.4.3 and 1.4.11."""
+    colours = dict(re.findall(r'--(\w+): (#\w{6})', STYLE.split('@media')[scheme]))
+    for text in ('ink', 'faint', 'faulty', 'waiting'):
+        assert all(contrast(colours[text], colours[ground]) >= 4.5 for ground in ('paper', 'band')), text
+    for ground in ('whole', 'faulty', 'waiting'):
+        assert contrast(colours['on'], colours[ground]) >= 4.5, ground
+    for bar in ('one', 'two', 'gap', 'overlap'):
+        assert contrast(colours[bar], colours['band']) >= 3, bar
 
 
 def test_names_of_any_bytes(folders, run):

@@ -152,7 +152,8 @@ class Day:
         if self.awaited:
             return f'Whole so far: {"; ".join(self.awaited)}.'
         whole = counted(len(self.overview.of_state('whole')), 'product')
-        return f'The day is whole: {whole}, nothing missing, nothing refused.'
+        aside = f'a whole one is accepted of {len(self.aside)} put aside' if self.aside else 'nothing refused'
+        return f'The day is whole: {whole}, nothing missing, {aside}.'
 
     def latency_of(self, products: Iterable[Entry]) -> dict[str, Any] | None:
         """Of some products the latency that the log says: how many it says it of, the median and the most, in

@@ -31,7 +31,7 @@ STYLE = '''
 :root {
   color-scheme: light dark;
   --paper: #ffffff; --ink: #1b1f24; --faint: #57606a; --line: #d0d7de; --band: #eef1f4; --on: #ffffff;
-  --one: #1565c0; --two: #64a2e0; --gap: #c62828; --overlap: #b45309;
+  --one: #0f4f9e; --two: #478ad4; --gap: #c62828; --overlap: #b45309;
   --whole: #1a6b2a; --faulty: #b3261e; --waiting: #8a5300;
 }
 @media screen and (prefers-color-scheme: dark) {

@@ -189,7 +189,7 @@ def test_a_day_that_is_not_over(folders):
     known = partial(day_of, DAY, str(folders.accepted), str(folders.refused))
     evening = known(now=datetime(2016, 6, 5, 23, 59, 59, tzinfo=timezone.utc))
     assert (evening.state, evening.gaps) == (DayState.WAITING, [])
-    assert evening.headline == 'Whole so far: the day is not over.'
+    assert evening.headline == 'Whole so far, 3 products: the day is not over.'
     midnight = known(now=datetime(2016, 6, 6, tzinfo=timezone.utc))
     assert midnight.state is DayState.NOT_WHOLE and [gap['ms'] for gap in midnight.gaps] == [QUARTER * 1000]
 
@@ -337,7 +337,7 @@ def test_what_still_waits(folders, run):
     (folders.incoming / 'begun').write_bytes(data[:100])
     os.utime(folders.incoming / 'begun', (1465092000, 1465092000))  # 02:00 of the day
     done = run(*folders.words, '--incoming', folders.incoming)
-    assert done.status == 3 and 'Whole so far: 2 files still to come.' in done.out
+    assert done.status == 3 and 'Whole so far, 4 products: 2 files still to come.' in done.out
     waits = [line for line in done.out.splitlines() if line.startswith('waits')]
     assert waits[0] == 'waits: begun: 100 bytes have come, the last at 2016-06-05T02:00:00Z'
     assert waits[1].startswith(f'waits: {name}: 3,500 of {len(data):,} bytes have come') and len(waits) == 2
@@ -403,7 +403,8 @@ def test_what_cannot_be_read_is_an_error(folders):
 
 
 def test_today_and_yesterday(folders, run):
-    assert run('overview', 'today', *folders.words[2:]).status == 1
+    done = run('overview', 'today', *folders.words[2:])
+    assert done.status == 3 and 'Whole so far, 0 products: the day is not over.' in done.out
     done = run('overview', 'yesterday', *folders.words[2:])
     assert done.status == 1 and re.match(r'\d{4}-\d\d-\d\d: The day is not whole: no product', done.out)
 

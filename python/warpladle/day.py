@@ -120,7 +120,8 @@ class Day:
     @property
     def faults(self) -> list[str]:
         """What is missing, refused or in conflict, in words for each."""
-        found = [] if self.overview.of_state('whole') else ['no product is accepted']
+        is_empty = self.is_over and not self.overview.of_state('whole')
+        found = ['no product is accepted'] if is_empty else []
         if self.gaps:
             missing = length_text(sum(gap['ms'] for gap in self.gaps))
             found.append(f'{counted(len(self.gaps), "gap")}, {missing} missing')
@@ -149,9 +150,9 @@ class Day:
         words = [*([f'{counted(unreadable, "file")} cannot be read'] if unreadable else []), *self.faults]
         if words:
             return f'The day is not whole: {"; ".join([*words, *self.awaited])}.'
-        if self.awaited:
-            return f'Whole so far: {"; ".join(self.awaited)}.'
         whole = counted(len(self.overview.of_state('whole')), 'product')
+        if self.awaited:
+            return f'Whole so far, {whole}: {"; ".join(self.awaited)}.'
         aside = f'a whole one is accepted of {len(self.aside)} put aside' if self.aside else 'nothing refused'
         return f'The day is whole: {whole}, nothing missing, {aside}.'
 

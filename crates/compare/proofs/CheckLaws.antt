@@ -26,7 +26,7 @@ use Rattle.compare.specs.declared.cut.Checked.{Checked}
 use Rattle.compare.specs.declared.cut.Checked.the-variants as C
 use Rattle.compare.specs.declared.walk.Compared.{Compared}
 use Rattle.compare.specs.declared.walk.Compared.the-variants as R
-use Rattle.compare.specs.Comparing.{Decides}
+use Rattle.bytewise.specs.Comparing.{Decides}
 use Rattle.compare.specs.Walking.{Both, Products, RecordsIs, comparedAs}
 use Rattle.compare.specs.Check.{Cut, refusedAt, IsCutOf, PartsCheck, is, other-field, unmatched, CheckIs, original-unfit, cut-unfit, both, NotAt, field, at-record, at-end, No}
 use Rattle.compare.proofs.CutOfLaws.{verdict-cut, cut-verdict, cut-itself, cut-on}

@@ -1,4 +1,3 @@
-pub mod CompareLaws
 pub mod PlaceLaws
 pub mod StepLaws
 pub mod CutOfLaws

@@ -14,7 +14,7 @@ use Rattle.mphr.specs.declared.layout.FieldPlace.{FieldPlace}
 use Rattle.mphr.specs.declared.layout.FieldPlace.the-variants as P
 use Rattle.mphr.proofs.LayoutLaws.{start-next, start-mono, start-72}
 use Rattle.parts.specs.Rewritten.{valueOf}
-use Rattle.compare.specs.Comparing.{SameIs}
+use Rattle.bytewise.specs.Comparing.{SameIs}
 
 pub place-is : (k : ℕ) (r : FieldPlace) (p : Place) → k < 72 → r ≡ P.Place p → saidPlace r ≡ fieldOf k → (p .start ≡ lineStart k) × (p .width ≡ widthOf k)
 place-is k r p h e s =

@@ -21,9 +21,10 @@ use Rattle.compare.specs.declared.walk.Turned.{Turned}
 use Rattle.compare.specs.declared.walk.Turned.the-variants as U
 use Rattle.compare.specs.declared.walk.Compared.{Compared}
 use Rattle.compare.specs.declared.walk.Compared.the-variants as R
-use Rattle.compare.specs.Comparing.{SameIs, Standing}
+use Rattle.compare.specs.Comparing.{Standing}
+use Rattle.bytewise.specs.Comparing.{SameIs}
 use Rattle.compare.specs.Walking.{fixedClass, Fixing, NextIs, Seeking, Goes, TakenIs, FixedIs, EarliestIs, Left, leftVerdict, Turning, GoesOn, TurnedIs, Both, RecordsIs, Comparing}
-use Rattle.compare.proofs.CompareLaws.{part-long}
+use Rattle.bytewise.proofs.CompareLaws.{part-long}
 
 -- ---- the record at a byte that is left
 pub record Here (a : List ℕ) (i : ℕ) (rs : List (List ℕ)) : Type 0 where

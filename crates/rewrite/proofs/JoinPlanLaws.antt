@@ -33,7 +33,8 @@ use Rattle.parts.proofs.CutHeaderLaws.{parts-byte}
 use Rattle.rewrite.specs.declared.sections.Sections.{Sections}
 use Rattle.rewrite.specs.Table.{Holds}
 use Rattle.rewrite.specs.Emitting.{pointersFrom, PutsText}
-use Rattle.rewrite.specs.Comparing.{Decides, SeenIs, Seeable}
+use Rattle.rewrite.specs.Comparing.{SeenIs, Seeable}
+use Rattle.bytewise.specs.Comparing.{Decides}
 use Rattle.parts.proofs.WalkLaws.{walk-first}
 use Rattle.rewrite.specs.Sectioning.{SectionsAre, Sectionable, Sectioned}
 use Rattle.rewrite.specs.Gathering.{Gathered, Stretch, Gatherable, Gathers}
@@ -42,7 +43,7 @@ use Rattle.rewrite.specs.Cut.{refusedAt}
 use Rattle.rewrite.specs.Join.{PartsJoin, JoinIs, unlike, out-of-time, too-much, no-room, written, both}
 use Rattle.rewrite.specs.Joining.{PutsRecords, Headers, joinLinesBy, JoinHeaderFor, JoinHeaderIs, Two, Sections2, rsOf, ssOf, LikeIs, AlikeIs, Matched, MatchedIs, Gathering2, Gathers2, JoinPlanned, PutsJoin}
 use Rattle.rewrite.proofs.CopyLaws.{sets-append, part-long}
-use Rattle.rewrite.proofs.CompareLaws.{no-it-is, yes-it-is, decides-as}
+use Rattle.bytewise.proofs.CompareLaws.{no-it-is, yes-it-is, decides-as}
 use Rattle.rewrite.proofs.AssembleLaws.{joined-append, count-append, count-none, count-all, assembled-text, pointers-text, pointers-long, totals-fit, put-together}
 use Rattle.rewrite.proofs.UntimedLaws.{seen-bytes}
 use Rattle.rewrite.proofs.StretchLaws.{bytes-append, text-walk, sections-come, sphr-text, global-text, sphr-own, global-own, aux-stretch, variable-stretch, mdr-stretch, stretch-text}

@@ -7,7 +7,6 @@ pub mod SurveyLaws
 pub mod LineLaws
 pub mod PlanLaws
 pub mod Laws
-pub mod CompareLaws
 pub mod SectionLaws
 pub mod GatherLaws
 pub mod AssembleLaws

@@ -33,10 +33,10 @@ use Rattle.parts.specs.Rewritten.{valueOf, Value, text, number, copied, whole, 
 use Rattle.parts.proofs.CutHeaderLaws.{name-width, name-start}
 use Rattle.parts.proofs.Relined.{rewritten-none}
 use Rattle.rewrite.specs.Lining.{Adds, NumberFor, wholeNumber, numberLine, Totals, totalLines}
-use Rattle.rewrite.specs.Comparing.{Decides, SameIs}
+use Rattle.bytewise.specs.Comparing.{Decides, SameIs}
 use Rattle.rewrite.specs.Joining.{Headers, sumLines, endLines, joinLinesBy, JoinHeaderIs}
 use Rattle.rewrite.proofs.CopyLaws.{part-long}
-use Rattle.rewrite.proofs.CompareLaws.{part-at, no-it-is, yes-it-is}
+use Rattle.bytewise.proofs.CompareLaws.{part-at, no-it-is, yes-it-is}
 use Rattle.rewrite.proofs.LineLaws.{adds-value, line-room, whole-text, sets-whole, sets-mid, parted, width-11}
 
 -- ---- a value, by where it stands

@@ -13,9 +13,10 @@ use Rattle.parts.specs.Parts.{joined, bytes, Own}
 use Rattle.parts.specs.Join.{identical, granules, untimed, seen}
 use Rattle.parts.specs.Walk.{Walk}
 use Rattle.parts.proofs.WalkLaws.{Ahead, Next, next, walk-next, walk-none, ahead-size, one-walk}
-use Rattle.rewrite.specs.Comparing.{Decides, SameIs, untimedAt, Untimable, Texts, SeenIs}
+use Rattle.rewrite.specs.Comparing.{untimedAt, Untimable, Texts, SeenIs}
+use Rattle.bytewise.specs.Comparing.{Decides, SameIs}
 use Rattle.rewrite.proofs.CopyLaws.{part-long}
-use Rattle.rewrite.proofs.CompareLaws.{part-at, no-it-is, yes-it-is, decides-as}
+use Rattle.bytewise.proofs.CompareLaws.{part-at, no-it-is, yes-it-is, decides-as}
 use Rattle.rewrite.proofs.StretchLaws.{one-text}
 
 -- ---- what is compared of the bytes from i on: the first 8, and those after the times

@@ -1,19 +1,12 @@
--- What a comparison answers: yes exactly where the two are the same, in what is compared of them. Assumes nothing.
+-- What a comparison of records answers, in what is compared of them. Assumes nothing.
 use Prim.Native.Nat.{ℕ, _+_, _-_, _≤_}
 use mathlib.Core.Path.{_≡_}
-use mathlib.Core.Bool.{Bool, true, false}
+use mathlib.Core.Bool.{Bool}
 use mathlib.Core.List.{List, _++_}
 use lib.ListN.{length, take, drop}
+use Rattle.bytewise.specs.Comparing.{Decides}
 use Rattle.parts.specs.Join.{seen}
 use Rattle.parts.specs.Walk.{Walk}
-
--- b says whether P holds
-pub record Decides (P : Type 0) (b : Bool) : Type 0 where
-  pub right : b ≡ true → P
-  pub wrong : b ≡ false → P → ⊥
-
-abbrev pub SameIs : List ℕ → List ℕ → Bool → Type 0
-SameIs x y b = Decides (x ≡ y) b
 
 -- ---- records, but for the times of their headers
 -- the n bytes of a from i on without the two times

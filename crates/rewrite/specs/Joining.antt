@@ -16,7 +16,7 @@ use Rattle.parts.specs.Pass.{FourAgree, Alike, InTime, joinSize}
 use Rattle.parts.specs.Rewritten.{valueOf, text, number, copied, whole, fitsLine, Rewritten, Holdable, Anew, anew, valuesOf}
 use Rattle.rewrite.specs.declared.sections.Sections.{Sections}
 use Rattle.rewrite.specs.Table.{Holds}
-use Rattle.rewrite.specs.Comparing.{Decides}
+use Rattle.bytewise.specs.Comparing.{Decides}
 use Rattle.rewrite.specs.Join.{JoinIs}
 use Rattle.rewrite.specs.Lining.{Adds, Totals, totalLines}
 use Rattle.rewrite.specs.Sectioning.{SectionsAre}

@@ -1,10 +1,12 @@
 // Bytes into a room, and bytes and records compared.
+use bytewise::is_same;
 use record::header::size_at;
 ghost use mathlib.Core.Path.{_≡_};
 ghost use Prim.Native.Nat.{_+_, _≤_};
 ghost use lib.ListN.{length, take, drop};
 ghost use lib.Seq.{sets};
-ghost use Rattle.rewrite.specs.Comparing.{Decides, SameIs, untimedAt, Untimable, Texts, SeenIs, Seeable};
+ghost use Rattle.bytewise.specs.Comparing.{Decides};
+ghost use Rattle.rewrite.specs.Comparing.{untimedAt, Untimable, Texts, SeenIs, Seeable};
 ghost use Rattle.parts.specs.Join.{granules};
 
 // The n bytes of s from `from` on, into the room from `at` on.
@@ -17,21 +19,6 @@ pub(crate) fn copy(s: &[u8], from: usize, n: usize, room: &mut [u8], at: usize)
         room[at + i] = s[from + i];
         i += 1;
     }
-}
-
-// The n bytes of s from `from` on are those of t from `at` on.
-pub(crate) fn is_same(s: &[u8], from: usize, t: &[u8], at: usize, n: usize) -> bool
-    requires { ⌜ (from + n ≤ length (now s)) × (at + n ≤ length (now t)) ⌝ }
-    ensures { λ r. ⌜ SameIs (take n (drop from (now (s .entry)))) (take n (drop at (now (t .entry)))) r ⌝ }
-{
-    let mut i: usize = 0;
-    while i < n {
-        if s[from + i] != t[at + i] {
-            return false;
-        }
-        i += 1;
-    }
-    true
 }
 
 // The record of `size` bytes of s at `at` is that of t but for the two times of its header.

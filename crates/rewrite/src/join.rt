@@ -1,7 +1,6 @@
 // Two products joined into one: those of request Seven (02), with identical SPHR and global records, and granules of a pass, whose SPHR
 // and global records have the times of their own product.
 use crate::copy::copy;
-use crate::copy::is_same;
 use crate::copy::is_untimed;
 use crate::cut::refused;
 use crate::gather::gather;
@@ -14,6 +13,7 @@ use crate::plan::plan_of;
 use crate::sections::Sections;
 use crate::sections::sections_of;
 use crate::times::is_late;
+use bytewise::is_same;
 use finish::Finished;
 use finish::verdict;
 use meter::integer::Written;
@@ -24,7 +24,7 @@ ghost use lib.ListN.{length};
 ghost use Rattle.demands.specs.Product.{Meets};
 ghost use Rattle.parts.specs.Parts.{mainOf};
 ghost use Rattle.parts.specs.Join.{identical, granules};
-ghost use Rattle.rewrite.specs.Comparing.{Decides};
+ghost use Rattle.bytewise.specs.Comparing.{Decides};
 ghost use Rattle.rewrite.specs.Join.{JoinIs};
 ghost use Rattle.rewrite.specs.Joining.{Two, Sections2, Matched, MatchedIs, Gathering2, Gathers2, LikeIs, AlikeIs};
 ghost use Rattle.rewrite.specs.Joining.{RecordsFor, PutsRecords, JoinPlanned, PutsJoin};

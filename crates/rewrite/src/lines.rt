@@ -1,7 +1,7 @@
 // The main header of a new product: the old one, with lines set anew. Where a line stands is said by `mphr`, its value written by `text`
 // and `meter`.
 use crate::copy::copy;
-use crate::copy::is_same;
+use bytewise::is_same;
 use meter::time::Time;
 use mphr::layout::FieldPlace;
 use mphr::layout::field_place;
@@ -21,7 +21,7 @@ ghost use Rattle.parts.specs.Rewritten.{valueOf, number, fitsLine};
 ghost use Rattle.parts.specs.CutHeader.{toSecond, stamp};
 ghost use Rattle.rewrite.specs.Lining.{Adds, NumberFor, numberLine, wholeNumber, Totals, unknownLines, totalLines};
 ghost use Rattle.rewrite.specs.Lining.{timed, timeLines, HeaderFor, HeaderIs};
-ghost use Rattle.rewrite.specs.Comparing.{Decides, SameIs};
+ghost use Rattle.bytewise.specs.Comparing.{Decides, SameIs};
 ghost use Rattle.rewrite.specs.Joining.{Headers, sumLines, endLines, JoinHeaderFor, JoinHeaderIs};
 
 // The value of line k.

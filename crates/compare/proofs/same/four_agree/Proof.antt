@@ -3,7 +3,7 @@ use mathlib.Core.Path.{_≡_}
 use mathlib.Core.Bool.{true, false}
 use borrow.Author.Tests.{not-true, not-false}
 use borrow.Author.Needs.{needs}
-use Rattle.compare.proofs.CompareLaws.{no-it-is, decides-as}
+use Rattle.bytewise.proofs.CompareLaws.{no-it-is, decides-as}
 use Rattle.compare.proofs.same.four_agree.Statement.{statement}
 use Rattle.compare.proofs.same.four_agree.Tie as tie
 

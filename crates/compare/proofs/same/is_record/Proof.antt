@@ -7,8 +7,8 @@ use denote.Ref.{now}
 use borrow.Author.Needs.{needs}
 use Rattle.record.proofs.HeaderLaws.{size-there}
 use Rattle.demands.specs.Product.{size}
-use Rattle.compare.specs.Comparing.{SameIs}
-use Rattle.compare.proofs.CompareLaws.{no-it-is, part-long}
+use Rattle.bytewise.specs.Comparing.{SameIs}
+use Rattle.bytewise.proofs.CompareLaws.{no-it-is, part-long, same-parts}
 use Rattle.compare.proofs.same.is_record.Statement.{statement}
 use Rattle.compare.proofs.same.is_record.Tie as tie
 
@@ -25,15 +25,13 @@ returns c =
     let n = size a (s .args .from) in
     no-it-is (λ e. c .if1 .taken (size-is (c .before) ∙ sym (part-long a (s .args .from) n (s .pre .0 .most)) ∙ ap length (sym e) ∙ part-long (now (s .args .cut)) (s .args .at) (s .args .size) (s .pre .1)))
 
-is-same-requires : tie.Need-is-same-requires
-is-same-requires c κs = let s = S (c .before) in (s .pre .1, omega (arith, s .pre .0 .most, size-is (c .before), c .if1 .left))
-
 returns-2 : tie.Need-returns-2
 returns-2 c =
     let e = c .before in
     let s = S (e .before) in
     let d : s .args .size ≡ size (now (s .args .original)) (s .args .from) = sym (e .if1 .left) ∙ size-is (e .before) in
-    subst (λ (n : ℕ). SameIs (take (s .args .size) (drop (s .args .at) (now (s .args .cut)))) (take n (drop (s .args .from) (now (s .args .original)))) (c .is-same .result)) d (c .is-same .ensures)
+    subst (λ (n : ℕ). SameIs (take (s .args .size) (drop (s .args .at) (now (s .args .cut)))) (take n (drop (s .args .from) (now (s .args .original)))) (c .is-same .result)) d
+    (same-parts (s .pre .1) (omega (arith, s .pre .0 .most, size-is (e .before), e .if1 .left)) (c .is-same .ensures))
 
 pub is-record-spec : {M : Type 1} → statement M
-is-record-spec = tie.close (tie.spec (λ c κs. search needs) returns is-same-requires returns-2)
+is-record-spec = tie.close (tie.spec (λ c κs. search needs) returns (λ c κs. search needs) returns-2)

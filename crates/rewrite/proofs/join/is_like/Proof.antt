@@ -4,6 +4,8 @@ use native.Mathlib.Omega.{arith}
 use mathlib.Core.Path.{_≡_}
 use lib.ListN.{length, take, drop}
 use borrow.Author.Tests.{not-true, not-false}
+use borrow.Author.Needs.{needs}
+use Rattle.bytewise.proofs.CompareLaws.{same-parts}
 use Rattle.rewrite.specs.Comparing.{SeenIs}
 use Rattle.rewrite.proofs.StretchLaws.{sections-come}
 use Rattle.rewrite.proofs.UntimedLaws.{seen-whole, seen-untimed}
@@ -35,17 +37,16 @@ returns c = like-front (c .before .before .before .before .before .pre) (c .befo
 returns-2 : tie.Need-returns-2
 returns-2 c = like-global (c .before .before .before .before .before .before .before .before .pre) (c .before .before .before .before .before .before .before .before .args .same) (c .if2 .taken)
 
-is-same-requires : tie.Need-is-same-requires
-is-same-requires c κs = let e = c .before in (omega (arith, first-come e), omega (arith, second-come e, same-front e))
-
 -- the SPHR, and the global records, by their bytes
 abbrev B : tie.After-is-same → tie.Else2
 B c = c .before .before
 
 front-bytes : (c : tie.After-is-same) → SeenIs (S (B c) .args .same) (take (S (B c) .args .f .sphr) (drop 3307 (S (B c) .args .first .now))) (take (S (B c) .args .f .sphr) (drop 3307 (S (B c) .args .second .now))) (c .is-same .result)
 front-bytes c =
-    let a = S (B c) .args in
-    seen-whole (a .first .now) (a .second .now) 3307 3307 (a .f .sphr) (a .same) (c .before .if3 .taken) (c .is-same .ensures)
+    let e = B c in
+    let a = S e .args in
+    let d = same-parts (omega (arith, first-come e)) (omega (arith, second-come e, same-front e)) (c .is-same .ensures) in
+    seen-whole (a .first .now) (a .second .now) 3307 3307 (a .f .sphr) (a .same) (c .before .if3 .taken) d
 
 returns-3 : tie.Need-returns-3
 returns-3 c = let i = c .before in let e = B i in like-no (S e .pre) (S e .args .same) (same-front e) (front-bytes i) (not-true (i .is-same .result) (c .if4 .taken))
@@ -65,17 +66,15 @@ add-is-same-3 c = omega (arith, low-2 (E (c .before .before)))
 add-is-same-4 : tie.Need-add-is-same-4
 add-is-same-4 c = omega (arith, low-2 (E (c .before .before .before)))
 
-is-same-requires-2 : tie.Need-is-same-requires-2
-is-same-requires-2 c κs = let e = E (c .before .before .before) in (omega (arith, first-come e), omega (arith, second-come e, e .if2 .left))
-
 returns-4 : tie.Need-returns-4
 returns-4 c =
     let f = c .before .before .before .before .before in
     let i = f .before in
     let e = B i in
     let a = S e .args in
+    let d = same-parts (omega (arith, first-come e)) (omega (arith, second-come e, e .if2 .left)) (c .is-same2 .ensures) in
     like-last (S e .pre) (a .same) (same-front e) (e .if2 .left) (front-bytes i) (not-false (i .is-same .result) (f .if4 .left))
-    (seen-whole (a .first .now) (a .second .now) (3307 + a .f .sphr + a .f .ipr) (3307 + a .g .sphr + a .g .ipr) (a .f .global) (a .same) (i .before .if3 .taken) (c .is-same2 .ensures))
+    (seen-whole (a .first .now) (a .second .now) (3307 + a .f .sphr + a .f .ipr) (3307 + a .g .sphr + a .g .ipr) (a .f .global) (a .same) (i .before .if3 .taken) d)
 
 -- and but for the times
 is-untimed-requires : tie.Need-is-untimed-requires
@@ -123,13 +122,13 @@ is-like-spec =
     (tie.spec
     returns
     returns-2
-    is-same-requires
+    (λ c κs. search needs)
     returns-3
     add-is-same
     add-is-same-2
     add-is-same-3
     add-is-same-4
-    is-same-requires-2
+    (λ c κs. search needs)
     returns-4
     is-untimed-requires
     returns-5

@@ -3,7 +3,7 @@ use mathlib.Core.Path.{_≡_}
 use mathlib.Core.Bool.{true, false}
 use borrow.Author.Tests.{not-true, not-false}
 use borrow.Author.Needs.{needs}
-use Rattle.rewrite.proofs.CompareLaws.{no-it-is, decides-as}
+use Rattle.bytewise.proofs.CompareLaws.{no-it-is, decides-as}
 use Rattle.rewrite.proofs.lines.four_agree.Statement.{statement}
 use Rattle.rewrite.proofs.lines.four_agree.Tie as tie
 

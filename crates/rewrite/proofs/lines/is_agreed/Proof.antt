@@ -5,6 +5,7 @@ use mathlib.Core.Path.{_≡_}
 use Rattle.mphr.specs.Layout.{widthOf, lineStart}
 use Rattle.rewrite.proofs.LineLaws.{place-is, place-lost, line-room}
 use Rattle.rewrite.proofs.SumLaws.{agreed-at}
+use Rattle.bytewise.proofs.CompareLaws.{same-parts}
 use borrow.Author.Needs.{needs}
 use Rattle.rewrite.proofs.lines.is_agreed.Statement.{statement}
 use Rattle.rewrite.proofs.lines.is_agreed.Tie as tie
@@ -27,14 +28,12 @@ add-is-same c = omega (arith, room (c .before .before))
 add-is-same-2 : tie.Need-add-is-same-2
 add-is-same-2 c = omega (arith, room (c .before .before .before))
 
-is-same-requires : tie.Need-is-same-requires
-is-same-requires c κs = let p = c .before .before .before in (omega (arith, room p, S p .pre .1), omega (arith, room p, S p .pre .2))
-
 returns-2 : tie.Need-returns-2
 returns-2 c =
     let p = c .before .before .before .before in
     let b = S p in
-    agreed-at (b .args .m .now) (b .args .n .now) (b .args .k) _ _ (stands p .0) (stands p .1) (c .is-same .ensures)
+    agreed-at (b .args .m .now) (b .args .n .now) (b .args .k) _ _ (stands p .0) (stands p .1)
+    (same-parts (omega (arith, room p, b .pre .1)) (omega (arith, room p, b .pre .2)) (c .is-same .ensures))
 
 pub is-agreed-spec : {M : Type 1} → statement M
 is-agreed-spec =
@@ -46,5 +45,5 @@ is-agreed-spec =
     returns
     add-is-same
     add-is-same-2
-    is-same-requires
+    (λ c κs. search needs)
     returns-2)

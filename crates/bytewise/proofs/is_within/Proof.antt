@@ -1,4 +1,4 @@
--- `compare::same::is_same` meets its contract: the eights before the i-th byte are the same, and what is left decides. Assumes nothing.
+-- `bytewise::is_within` meets its contract: the eights before the i-th byte are the same, and what is left decides. Assumes nothing.
 use Prim.Native.Nat.{ℕ, _+_, _-_, _≤_, _<_}
 use native.Mathlib.Omega.{arith}
 use mathlib.Core.Path.{_≡_}
@@ -7,9 +7,9 @@ use denote.Ref.{now}
 use borrow.Author.Tests.{not-true, not-false}
 use borrow.Author.Needs.{needs}
 use Rattle.mphr.specs.Turning.{Alike}
-use Rattle.compare.proofs.CompareLaws.{further, part-no, part-last}
-use Rattle.compare.proofs.same.is_same.Statement.{statement}
-use Rattle.compare.proofs.same.is_same.Tie as tie
+use Rattle.bytewise.proofs.CompareLaws.{further, part-no, part-last}
+use Rattle.bytewise.proofs.is_within.Statement.{statement}
+use Rattle.bytewise.proofs.is_within.Tie as tie
 
 abbrev Inv-loop : tie.InvT-loop
 Inv-loop s from t at n i₀ i = (i ≤ n) × Alike s t from at i
@@ -60,8 +60,8 @@ returns-2 c =
     let i = l .before .loop in
     part-last (now (a .s)) (now (a .t)) (a .from) (a .at) (a .n) (c .is-rest .result) (i .i) (i .inv .0) (b .pre .0) (b .pre .1) (i .inv .1) (c .is-rest .ensures)
 
-pub is-same-spec : {M : Type 1} → statement M
-is-same-spec =
+pub is-within-spec : {M : Type 1} → statement M
+is-within-spec =
     tie.close
     (tie.spec
     Inv-loop

@@ -1,9 +1,9 @@
--- `compare::same::four` meets its contract: the bytes in turn. Assumes nothing.
+-- `bytewise::four` meets its contract: the bytes in turn. Assumes nothing.
 use Rattle.mphr.proofs.AlikeLaws.{of-four}
 use native.Mathlib.Omega.{arith}
 use borrow.Author.Needs.{needs}
-use Rattle.compare.proofs.same.four.Statement.{statement}
-use Rattle.compare.proofs.same.four.Tie as tie
+use Rattle.bytewise.proofs.four.Statement.{statement}
+use Rattle.bytewise.proofs.four.Tie as tie
 
 returns : tie.Need-returns
 returns c = (of-four _ _ (c .before .before .before .before .before .before .wide .ensures .0) (c .before .before .before .before .wide2 .ensures .0) (c .before .before .wide3 .ensures .0) (c .wide4 .ensures .0), omega arith)

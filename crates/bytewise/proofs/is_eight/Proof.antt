@@ -1,13 +1,13 @@
--- `compare::same::is_eight` meets its contract: eight bytes are the same exactly where their numbers are. Assumes nothing.
+-- `bytewise::is_eight` meets its contract: eight bytes are the same exactly where their numbers are. Assumes nothing.
 use Prim.Native.Nat.{ℕ, _<_}
 use mathlib.Core.Path.{_≡_, sym, _∙_}
 use lib.ListN.{getD}
 use denote.Ref.{now}
 use borrow.Author.Needs.{needs}
 use Rattle.mphr.proofs.AlikeLaws.{eight-alike}
-use Rattle.compare.proofs.CompareLaws.{no-it-is, yes-it-is, eight-of}
-use Rattle.compare.proofs.same.is_eight.Statement.{statement}
-use Rattle.compare.proofs.same.is_eight.Tie as tie
+use Rattle.bytewise.proofs.CompareLaws.{no-it-is, yes-it-is, eight-of}
+use Rattle.bytewise.proofs.is_eight.Statement.{statement}
+use Rattle.bytewise.proofs.is_eight.Tie as tie
 
 abbrev S : tie.After-eight2 → tie.Start
 S c = c .before .before .before .before

@@ -1,13 +1,13 @@
--- `compare::same::is_rest` meets its contract: the bytes before the i-th are the same. Assumes nothing.
+-- `bytewise::is_rest` meets its contract: the bytes before the i-th are the same. Assumes nothing.
 use Prim.Native.Nat.{ℕ, _+_, _-_, _≤_, _<_}
 use native.Mathlib.Omega.{arith}
 use mathlib.Core.Path.{_≡_}
 use lib.ListN.{getD}
 use borrow.Author.Count.{below-more}
 use borrow.Author.Needs.{needs}
-use Rattle.compare.proofs.CompareLaws.{no-it-is, yes-it-is}
-use Rattle.compare.proofs.same.is_rest.Statement.{statement}
-use Rattle.compare.proofs.same.is_rest.Tie as tie
+use Rattle.bytewise.proofs.CompareLaws.{no-it-is, yes-it-is}
+use Rattle.bytewise.proofs.is_rest.Statement.{statement}
+use Rattle.bytewise.proofs.is_rest.Tie as tie
 
 abbrev Inv-loop : tie.InvT-loop
 Inv-loop s from t at n i₀ i = (i ≤ n) × ((k : ℕ) → k < i → getD s (from + k) 0 ≡ getD t (at + k) 0)

@@ -11,7 +11,7 @@ use Rattle.meter.specs.Integer.{beAt}
 use Rattle.meter.proofs.IntegerLaws.{beAt-same}
 use Rattle.mphr.specs.Turning.{Alike}
 use Rattle.mphr.proofs.AlikeLaws.{eight}
-use Rattle.compare.specs.Comparing.{Decides, SameIs}
+use Rattle.bytewise.specs.Comparing.{Decides, SameIs, SameParts}
 
 pub part-long : (a : List ℕ) (from n : ℕ) → from + n ≤ length a → length (take n (drop from a)) ≡ n
 part-long a from n h = simp (length-take, length-drop) (omega arith)
@@ -72,3 +72,19 @@ module _ (a b : List ℕ) (from at n : ℕ) where
   pub part-last : (r : Bool) (i : ℕ) → i ≤ n → from + n ≤ length a → at + n ≤ length b → Alike a b from at i → Decides (Alike a b (from + i) (at + i) (n - i)) r → SameIs (take n (drop from a)) (take n (drop at b)) r
   part-last true i l h k f d = same-yes a b from at n h k (λ q u. further a b from at i (n - i) f (d .right refl) q (omega arith))
   part-last false i l h k f d = part-no i (n - i) (omega arith) (d .wrong refl)
+
+-- ---- parts that may not be all there
+module _ {a b : List ℕ} {i j n : ℕ} where
+  -- of parts that are there, what is asked is that they are the same
+  pub same-parts : i + n ≤ length a → j + n ≤ length b → {r : Bool} → Decides (SameParts a i b j n) r → SameIs (take n (drop i a)) (take n (drop j b)) r
+  same-parts h k d = record { right = λ e. d .right e .same; wrong = λ e s. d .wrong e (record { first = h; second = k; same = s }) }
+
+  pub parts-same : i + n ≤ length a → j + n ≤ length b → {r : Bool} → SameIs (take n (drop i a)) (take n (drop j b)) r → Decides (SameParts a i b j n) r
+  parts-same h k d = record { right = λ e. record { first = h; second = k; same = d .right e }; wrong = λ e s. d .wrong e (s .same) }
+
+-- one answer at most
+pub unique-is-same : {P : Type 0} {x y : Bool} → Decides P x → Decides P y → x ≡ y
+unique-is-same {x = true} {y = true} d e = refl
+unique-is-same {x = false} {y = false} d e = refl
+unique-is-same {x = true} {y = false} d e = absurd (e .wrong refl (d .right refl))
+unique-is-same {x = false} {y = true} d e = absurd (d .wrong refl (e .right refl))

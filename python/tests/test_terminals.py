@@ -21,7 +21,7 @@ def words(tmp_path, rich, samples):
     for k in (0, 1):
         (tmp_path / f'{k}.eps').write_bytes(granule(k))
     (tmp_path / 'rich.eps').write_bytes(rich.read_bytes())
-    for name in ('accepted', 'refused'):
+    for name in ('accepted', 'refused', 'incoming'):
         (tmp_path / name).mkdir()
     day = granule(0, SENSING_START='20160605000000Z', SENSING_END='20160606000000Z')
     (tmp_path / 'accepted' / 'day.eps').write_bytes(day)
@@ -33,6 +33,7 @@ def words(tmp_path, rich, samples):
         {
             'compare': ['compare', 'rich.eps', 'rich.eps'],
             'cut': ['cut', 'rich.eps', *TOWN, '-o', 'cut.eps', '--force'],
+            'intake': ['intake', 'incoming', '--accepted', 'taken', '--refused', 'aside', '--once'],
             'join': ['join', '0.eps', '1.eps', '-o', 'join.eps', '--force'],
             'level0': ['level0', samples / 'example.eps'],
             'overview': ['overview', '2016-06-05', '--accepted', 'accepted', '--refused', 'refused'],

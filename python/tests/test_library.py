@@ -33,7 +33,9 @@ LENT = {
 def declared():
     """The types of each function of the header, its parameters' names taken out."""
     code = re.sub(r'/\*.*?\*/', '', HEADER, flags=re.S)
-    found = re.findall(r'void wl_(\w+)\((.*?)\);', code, re.S)
+    lengths = dict(re.findall(r'(WL_LEN_\w+) = (\d+)', code))
+    code = re.sub(r'WL_LEN_\w+', lambda one: lengths[one[0]], code)
+    found = re.findall(r'^void wl_(\w+)\((.*?)\);', code, re.S | re.M)
     return {
         name: [
             ' '.join(re.sub(r'\b\w+(?=\)?(\[\d+\])?$)', '', one.strip(), count=1).split()) for one in given.split(',')

@@ -8,6 +8,7 @@ from typing import Any
 class Refusal(IntEnum):
     """The number of a refusal, by the name that include/warpladle.h has for it."""
 
+    # tables: names (written by tools/tables)
     FIRST_HEADER = 1
     LINE = 2
     VALUE = 3
@@ -47,6 +48,7 @@ class Refusal(IntEnum):
     RECORD_LENGTH = 37
     RECORD_COUNTS = 38
     PART_LENGTHS = 39
+    # tables: end
 
 
 class State(str, Enum):
@@ -59,6 +61,7 @@ class State(str, Enum):
 
 # what each number means whatever was lent; `words` says more where the bytes are at hand
 MEANING = {
+    # tables: meanings (written by tools/tables)
     1: 'the first header is not class 1, group 0, subclass 0, size 3307',
     2: 'a line of the main header has another name, no "= " or no line feed',
     3: 'a value of the main header is not of its kind',
@@ -98,6 +101,7 @@ MEANING = {
     37: 'the record of the arrival is short or long',
     38: 'the record of the arrival has another number of answers than of parts',
     39: "the lengths of the parts do not sum to the product's, or are more than a record can count",
+    # tables: end
 }
 
 OF_A_PRODUCT = range(1, 18)

@@ -6,6 +6,7 @@ use std::fmt;
 #[repr(u8)]
 #[non_exhaustive]
 pub enum Fault {
+    // tables: faults (written by tools/tables)
     /// The first header is not class 1, group 0, subclass 0, size 3307. The place: 0.
     FirstHeader = 1,
     /// A line's name, "= " or line feed. The place: the line's start.
@@ -52,15 +53,15 @@ pub enum Fault {
     NoField = 22,
     /// A listing of more than 65,536 bytes. The place: 65536.
     ListingLimit = 23,
-    /// A watch was fed a 65th pointer record. The place: its start.
+    /// A watch was fed a 65th pointer record. The place: its start. In number order after 12 and before 13.
     TooManyPointers = 24,
-    /// A window of time is undefined or invalid, or ends before it starts. The place: 0.
+    /// A window of time is undefined or invalid, or ends before it starts. The place: 0. Before all others.
     Window = 25,
-    /// Two products that cannot be joined: another instrument, type, level or spacecraft, SPHR or global records. The place: 0.
+    /// Two products to be joined are unlike: INSTRUMENT_ID, PRODUCT_TYPE, PROCESSING_LEVEL or SPACECRAFT_ID, the SPHR or the global records (of granules of a pass without their headers' times). The place: 0. After both products' own.
     Unlike = 26,
-    /// The second of two products to be joined starts before the first stops. The place: 0.
+    /// The second of two products to be joined starts before the first stops (of granules of a pass by more than one millisecond). The place: 0. After 26.
     OutOfTime = 27,
-    /// A product to be written would have over 2,147,483,647 bytes or over 999,999 records, or a sum does not fit its line. The place: 0.
+    /// A product to be written would have over 2,147,483,647 bytes or over 999,999 records, or a sum does not fit its line. The place: 0. After 17 and 27, and before 18.
     ResultLimit = 28,
     /// A record against the Level 0 profile. The place: the first such record's start. After 17 and before 18.
     Profile = 29,
@@ -80,15 +81,17 @@ pub enum Fault {
     ReportFull = 36,
     /// The record of an arrival is shorter or longer than its counts ask. The place: 0.
     RecordLength = 37,
-    /// It has not as many answers as part lengths. The place: 0.
+    /// It has not as many answers as part lengths. The place: 0. After 37.
     RecordCounts = 38,
-    /// The lengths of parts do not sum to the product's length. The place: 0.
+    /// The lengths of parts do not sum to the product's length, or are more than a record can count. The place: 0. After 38, and before 18.
     PartLengths = 39,
+    // tables: end
 }
 
 impl Fault {
     /// Every fault, by its number from 1 on.
     pub const ALL: [Fault; 39] = [
+        // tables: every fault (written by tools/tables)
         Fault::FirstHeader,
         Fault::Line,
         Fault::Value,
@@ -128,6 +131,7 @@ impl Fault {
         Fault::RecordLength,
         Fault::RecordCounts,
         Fault::PartLengths,
+        // tables: end
     ];
 
     /// The number of the fault.
@@ -141,49 +145,53 @@ impl Fault {
         Fault::ALL.get(k).copied()
     }
 
+    const MEANINGS: [&'static str; 39] = [
+        // tables: meanings (written by tools/tables)
+        "the first header is not class 1, group 0, subclass 0, size 3307",
+        "a line of the main header has another name, no \"= \" or no line feed",
+        "a value of the main header is not of its kind",
+        "the declared size is under 3,307 or over 2,147,483,647",
+        "the totals do not agree",
+        "1 to 19 bytes are left where a record should start",
+        "a record has an unknown class or group",
+        "a record's class is out of the sections' order",
+        "a record's size is under 20, past the declared size, or other than 27 for a pointer record",
+        "a record has a bad time, or starts after it stops",
+        "there are more records of a class than its total",
+        "a pointer's target cannot be",
+        "a pointer points into the middle of a record",
+        "a pointer points at a record of another class, group or subclass",
+        "there are fewer records of a class than its total",
+        "there are bytes beyond the declared size",
+        "the product is finished short of its main header or of its declared size",
+        "the lent room is too small",
+        "there is no such record yet",
+        "the part to read is outside the lent bytes",
+        "a number, time, date or header is malformed or outside the limits",
+        "there is no such field, it is of another kind, or the value does not fit its line",
+        "a listing was asked of more than 65,536 bytes",
+        "a watch was fed a 65th pointer record",
+        "the window of time is undefined or invalid, or ends before it starts",
+        "the two products are unlike",
+        "the second product starts before the first stops",
+        "the result would have over 2,147,483,647 bytes or over 999,999 records, or a sum does not fit its line",
+        "a record is against the Level 0 profile",
+        "the humidity file is short of 642 bytes",
+        "the humidity file's number of segments is negative",
+        "a segment's line or column is not 1 to 80",
+        "a segment's number of blocks is below 1",
+        "a segment header or a block is cut",
+        "bytes are left over after the last block",
+        "the report is full: 4,096 products, or a total of 64 bits",
+        "the record of the arrival is short or long",
+        "the record of the arrival has another number of answers than of parts",
+        "the lengths of the parts do not sum to the product's, or are more than a record can count",
+        // tables: end
+    ];
+
     /// What it means.
     pub fn meaning(self) -> &'static str {
-        match self {
-            Fault::FirstHeader => "the first header is not class 1, group 0, subclass 0, size 3307",
-            Fault::Line => "a line's name, \"= \" or line feed",
-            Fault::Value => "a value that is not of its field's kind",
-            Fault::DeclaredSize => "D under 3,307 or over 2,147,483,647",
-            Fault::Totals => "TOTAL_MPHR not 1, TOTAL_SPHR over 1, or TOTAL_RECORDS not the sum of the others",
-            Fault::BytesLeft => "1 to 19 bytes of D are left where a record should start",
-            Fault::UnknownKind => "an unknown class or group",
-            Fault::Order => "a class out of the sections' order",
-            Fault::RecordSize => "a size under 20 or past D, or of a pointer record other than 27",
-            Fault::RecordTimes => "a bad time, or both defined and the start after the stop",
-            Fault::TooMany => "more records of a class than its total",
-            Fault::Target => "a pointer's target class not 4 to 8, or its offset before the pointer's end or less than 20 before D",
-            Fault::PointsInside => "a pointer into the middle of a record",
-            Fault::PointsAtOther => "a pointer at a record of another class, group or subclass",
-            Fault::TooFew => "fewer records of a class than its total",
-            Fault::Beyond => "bytes beyond D",
-            Fault::Unfinished => "finished short of 3,307 bytes or of D, or a field asked of a shorter main header",
-            Fault::Room => "the lent room is too small",
-            Fault::NoRecord => "no such record yet",
-            Fault::Outside => "the part to read is outside the lent bytes",
-            Fault::Malformed => "a number, time, date or header is malformed or outside our limits",
-            Fault::NoField => "no such field, another kind, or a value that does not fit its line",
-            Fault::ListingLimit => "a listing of more than 65,536 bytes",
-            Fault::TooManyPointers => "a watch was fed a 65th pointer record",
-            Fault::Window => "a window of time is undefined or invalid, or ends before it starts",
-            Fault::Unlike => "two products that cannot be joined: another instrument, type, level or spacecraft, SPHR or global records",
-            Fault::OutOfTime => "the second of two products to be joined starts before the first stops",
-            Fault::ResultLimit => "a product to be written would have over 2,147,483,647 bytes or over 999,999 records, or a sum does not fit its line",
-            Fault::Profile => "a record against the Level 0 profile",
-            Fault::UthShort => "a humidity file short of 642 bytes",
-            Fault::UthSegments => "M, its number of segments, is negative",
-            Fault::UthGrid => "a segment's line or column is not 1 to 80",
-            Fault::UthBlocks => "N, a segment's number of blocks, is below 1",
-            Fault::UthCut => "a segment header or a block is cut",
-            Fault::UthLeft => "bytes are left over after the last block",
-            Fault::ReportFull => "a 4,097th product in a report, or a total past 64 bits",
-            Fault::RecordLength => "the record of an arrival is shorter or longer than its counts ask",
-            Fault::RecordCounts => "it has not as many answers as part lengths",
-            Fault::PartLengths => "the lengths of parts do not sum to the product's length",
-        }
+        Fault::MEANINGS[self as usize - 1]
     }
 }
 

@@ -24,6 +24,7 @@ pub enum FieldKind {
 #[repr(u8)]
 #[allow(missing_docs)]
 pub enum Field {
+    // tables: fields (written by tools/tables)
     ProductName = 0,
     ParentProductName1 = 1,
     ParentProductName2 = 2,
@@ -96,11 +97,13 @@ pub enum Field {
     MillisecondsOfDataPresent = 69,
     MillisecondsOfDataMissing = 70,
     SubsettedProduct = 71,
+    // tables: end
 }
 
 impl Field {
     /// Every field, in the order of the lines.
     pub const ALL: [Field; 72] = [
+        // tables: every field (written by tools/tables)
         Field::ProductName,
         Field::ParentProductName1,
         Field::ParentProductName2,
@@ -173,9 +176,11 @@ impl Field {
         Field::MillisecondsOfDataPresent,
         Field::MillisecondsOfDataMissing,
         Field::SubsettedProduct,
+        // tables: end
     ];
 
     const NAMES: [(&'static str, FieldKind, usize); 72] = [
+        // tables: names (written by tools/tables)
         ("PRODUCT_NAME", FieldKind::Text, 67),
         ("PARENT_PRODUCT_NAME_1", FieldKind::Text, 67),
         ("PARENT_PRODUCT_NAME_2", FieldKind::Text, 67),
@@ -248,6 +253,7 @@ impl Field {
         ("MILLISECONDS_OF_DATA_PRESENT", FieldKind::Unsigned, 8),
         ("MILLISECONDS_OF_DATA_MISSING", FieldKind::Unsigned, 8),
         ("SUBSETTED_PRODUCT", FieldKind::Text, 1),
+        // tables: end
     ];
 
     /// Its name, as the main header has it.

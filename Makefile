@@ -2,7 +2,8 @@
 # make install PREFIX= DESTDIR= installs them, the header, the pkg-config files and the man pages; PREFIX is /usr/local where none is named
 # make uninstall                takes away what was installed
 # make test                     the gate (.ci/run)
-# make dist                     target/dist/: the installed tree as a tarball, for each processor, with checksums
+# make wheel                    target/dist/: the Python package and the command, with the shared library of the machine at hand (tools/wheel)
+# make dist                     target/dist/: the installed tree as a tarball, for each processor, and the wheel, with checksums
 VERSION := $(shell sed -n 's/^#define WARPLADLE_VERSION "\(.*\)"$$/\1/p' include/warpladle.h)
 MAJOR := $(firstword $(subst ., ,$(VERSION)))
 PREFIX ?= /usr/local
@@ -12,7 +13,7 @@ INTO = $(DESTDIR)$(PREFIX)
 MAN = warpladle.1 warpladle.3
 SHARED = libwarpladle.so.$(VERSION)
 
-.PHONY: all install uninstall test dist
+.PHONY: all install uninstall test wheel dist
 all:
 	tools/archive
 
@@ -35,6 +36,9 @@ uninstall:
 
 test:
 	.ci/run
+
+wheel: all
+	tools/wheel
 
 # The shared library is of the machine at hand, so the tarball of the other processor has archives alone.
 dist: all

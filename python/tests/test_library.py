@@ -1,11 +1,14 @@
 """The table of functions against include/warpladle.h, and how buffers and numbers are lent."""
 import ctypes
+import os
 import re
 import subprocess
+import sys
 
 import pytest
 from conftest import ROOT
 
+import warpladle
 from warpladle import library
 from warpladle.library import FUNCTIONS, Watched, answer
 
@@ -84,6 +87,21 @@ def test_every_function_is_in_the_library():
         assert library.function(name)
     with pytest.raises(library.LibraryMissing, match='has no wl_nothing: make it anew with tools/archive'):
         library.function('nothing')
+
+
+def test_a_library_of_other_functions_is_refused_before_it_is_asked(tmp_path):
+    source, shared = tmp_path / 'other.c', tmp_path / 'other.so'
+    source.write_text('void wl_verdict(void); void wl_verdict(void) {}\n')
+    subprocess.run(['cc', '-shared', '-fPIC', source, '-o', shared], check=True)
+    done = subprocess.run(
+        [sys.executable, '-m', 'warpladle', 'check', ROOT / 'samples' / 'rich.eps'],
+        env={**os.environ, 'WARPLADLE_LIBRARY': str(shared), 'PYTHONPATH': str(ROOT / 'python')},
+        capture_output=True,
+        text=True,
+    )
+    words = f'it has no wl_arrival and {len(FUNCTIONS) - 1} more: make it anew with tools/archive'
+    assert done.stderr == f'warpladle: {shared} is not the library of warpladle {warpladle.__version__}, {words}\n'
+    assert (done.returncode, done.stdout) == (2, '')
 
 
 def test_a_room_that_cannot_be_written_or_has_part_of_an_item():

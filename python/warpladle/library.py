@@ -13,6 +13,7 @@ from collections.abc import Callable
 from pathlib import Path
 from typing import Any
 
+from .about import __version__
 from .refusal import Refused
 
 NAME = 'libwarpladle.so'
@@ -164,16 +165,29 @@ def places() -> list[Path]:
 _loaded: dict[str, Any] = {}
 
 
+def _hold(found: ctypes.CDLL, path: Path) -> None:
+    """Refuses a library that lacks a function, before anything is asked of it."""
+    missing = [f'wl_{name}' for name in [*FUNCTIONS, 'watch_new'] if not hasattr(found, f'wl_{name}')]
+    if missing:
+        more = f' and {len(missing) - 1} more' if missing[1:] else ''
+        raise LibraryMissing(
+            f'{path} is not the library of warpladle {__version__}, it has no {missing[0]}{more}: make it anew with'
+            ' tools/archive'
+        )
+
+
 def _open() -> ctypes.CDLL:
     looked = places()
     for path in looked:
         if path.exists():
             try:
-                return ctypes.CDLL(str(path))
+                found = ctypes.CDLL(str(path))
             except OSError as error:
                 raise LibraryMissing(
                     f'{path} cannot be loaded ({error}); tools/archive makes one for this machine'
                 ) from None
+            _hold(found, path)
+            return found
     raise LibraryMissing(
         f'there is no {" and no ".join(map(str, looked))}: make it with tools/archive, or name one in WARPLADLE_LIBRARY'
     )

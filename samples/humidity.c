@@ -5,42 +5,42 @@
  *     cc -Iinclude samples/humidity.c target/libwarpladle.a -o target/humidity
  *     target/humidity < samples/humidity.uth
  */
-#include <stdio.h>
-#include <stdlib.h>
-#include "warpladle.h"
+#include "bytes.h"
 
-static void show(uint32_t there, float value)
+static void show_value(uint32_t there, float value)
 {
     if (there)
-        printf(" %.2f", value);
+        printf(" %.2f", (double)value);
     else
         printf(" -");
 }
 
-int main(void)
+static int show(const uint8_t *file, size_t len, wl_block *blocks, wl_block_values *values, size_t places)
 {
-    size_t len = 0, room = 1 << 20, got;
-    uint8_t *file = malloc(room);
-    while (file != NULL && (got = fread(file + len, 1, room - len, stdin)) > 0) {
-        len += got;
-        if (len == room)
-            file = realloc(file, room *= 2);
-    }
-    size_t places = len / 72 + 1; /* a block has 72 bytes */
-    uint32_t (*blocks)[4] = calloc(places, sizeof *blocks);
-    float (*values)[2] = calloc(places, sizeof *values);
-    if (file == NULL || blocks == NULL || values == NULL || ferror(stdin))
-        return perror("standard input"), 2;
-
-    uint64_t answer[WL_ANSWER];
-    wl_uth(file, len, blocks, places, values, places, answer);
-    if (answer[0] != WL_ACCEPTED)
-        return printf("refused %llu %llu\n", (unsigned long long)answer[0], (unsigned long long)answer[1]), 1;
-    for (size_t k = 0; k < answer[2]; k++) {
-        printf("%u %u", (unsigned)blocks[k][0], (unsigned)blocks[k][1]);
-        show(blocks[k][2], values[k][0]);
-        show(blocks[k][3], values[k][1]);
+    wl_blocks_answer answer;
+    if (wl_ask_uth(file, len, blocks, places, values, places, &answer))
+        return tell(answer.refusal, answer.place), 1;
+    for (size_t k = 0; k < answer.blocks; k++) {
+        printf("%u %u", blocks[k].line, blocks[k].column);
+        show_value(blocks[k].has_uth, values[k].uth);
+        show_value(blocks[k].has_csr, values[k].csr);
         puts("");
     }
     return 0;
+}
+
+int main(void)
+{
+    size_t len;
+    uint8_t *file = bytes_of(stdin, &len);
+    if (file == NULL)
+        return perror("standard input"), 2;
+    size_t places = len / 72 + 1; /* a block has 72 bytes */
+    wl_block *blocks = calloc(places, sizeof *blocks);
+    wl_block_values *values = calloc(places, sizeof *values);
+    int status = blocks == NULL || values == NULL ? 2 : show(file, len, blocks, values, places);
+    free(values);
+    free(blocks);
+    free(file);
+    return status;
 }

@@ -21,24 +21,19 @@ int main(int count, char **words)
     for (int i = 1; i < count && len < sizeof bytes; i++)
         bytes[len++] = (uint8_t)strtoul(words[i], NULL, 16);
 
-    uint64_t number[WL_SCALED];
-    wl_read_scaled(bytes, len, 0, len - 1, 1, number);
-    if (number[0] != 0)
-        return printf("refused %d %d\n", (int)number[0], (int)number[1]), 1;
+    wl_scaled_answer number;
+    if (wl_ask_read_scaled(bytes, len, 0, len - 1, 1, &number))
+        return printf("refused %d %d\n", (int)number.refusal, (int)number.place), 1;
 
-    uint8_t defined = (uint8_t)number[2];
-    int64_t integer = (int64_t)number[3];
-    int8_t scale = (int8_t)(int64_t)number[4];
     double value;
-    uint64_t shown[WL_ANSWER];
-    wl_reading(defined, integer, scale, &value, shown);
-    if (shown[0] != 0)
-        return printf("refused %d %d\n", (int)shown[0], (int)shown[1]), 1;
-    if (shown[2] == WL_MISSING)
+    wl_value_answer shown;
+    if (wl_ask_reading(number.defined != 0, number.integer, (int8_t)number.scale, &value, &shown))
+        return printf("refused %d %d\n", (int)shown.refusal, (int)shown.place), 1;
+    if (shown.value == WL_MISSING)
         puts("missing");
-    else if (shown[2] == WL_WHOLE)
+    else if (shown.value == WL_WHOLE)
         printf("%.0f\n", value);
     else
-        printf("%.*f\n", scale, value);
+        printf("%.*f\n", (int)number.scale, value);
     return 0;
 }

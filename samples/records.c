@@ -5,28 +5,29 @@
  *     cc -Iinclude samples/records.c target/libwarpladle.a -o target/records
  *     target/records < samples/rich.eps
  */
-#include <stdio.h>
-#include <stdlib.h>
-#include "warpladle.h"
+#include "bytes.h"
+
+static int show(const uint8_t *product, size_t len, wl_record_row *rows, size_t rows_len)
+{
+    wl_verdict_answer verdict;
+    if (wl_ask_rows(product, len, rows, rows_len, &verdict))
+        return tell(verdict.refusal, verdict.place), 1;
+    const wl_record_row *last = &rows[verdict.records - 1];
+    printf("%llu records, the last at byte %u, %s of %s, %u bytes\n", (unsigned long long)verdict.records, last->start, wl_class_text(last->class_),
+           wl_group_text(last->group), last->size);
+    return 0;
+}
 
 int main(void)
 {
-    size_t len = 0, room = 1 << 20, got;
-    uint8_t *product = malloc(room);
-    while (product != NULL && (got = fread(product + len, 1, room - len, stdin)) > 0) {
-        len += got;
-        if (len == room)
-            product = realloc(product, room *= 2);
-    }
-    uint32_t(*rows)[WL_ROW] = calloc(len / 20 + 1, sizeof *rows); /* a record has 20 bytes or more */
-    if (product == NULL || rows == NULL || ferror(stdin))
+    size_t len;
+    uint8_t *product = bytes_of(stdin, &len);
+    if (product == NULL)
         return perror("standard input"), 2;
-
-    uint64_t answer[WL_ANSWER];
-    wl_rows(product, len, rows, len / 20 + 1, answer);
-    if (answer[0] != WL_ACCEPTED)
-        return printf("refused %llu %llu\n", (unsigned long long)answer[0], (unsigned long long)answer[1]), 1;
-    const uint32_t *last = rows[answer[2] - 1];
-    printf("%llu records, the last at byte %u, of class %u and %u bytes\n", (unsigned long long)answer[2], last[WL_START], last[WL_CLASS], last[WL_SIZE]);
-    return 0;
+    size_t most = len / 20 + 1; /* a record has 20 bytes or more */
+    wl_record_row *rows = calloc(most, sizeof *rows);
+    int status = rows == NULL ? 2 : show(product, len, rows, most);
+    free(rows);
+    free(product);
+    return status;
 }

@@ -1087,7 +1087,8 @@ static inline const char *wl_refusal_text(uint64_t number)
         "a line of the main header has another name, no \"= \" or no line feed",
         "a value of the main header is not of its kind",
         "the declared size is under 3,307 or over 2,147,483,647",
-        "the totals do not agree",
+        "the totals do not agree: one MPHR, at most one SPHR, and TOTAL_RECORDS the sum of the "
+        "others",
         "1 to 19 bytes are left where a record should start",
         "a record has an unknown class or group",
         "a record's class is out of the sections' order",
@@ -1095,7 +1096,8 @@ static inline const char *wl_refusal_text(uint64_t number)
         "record",
         "a record has a bad time, or starts after it stops",
         "there are more records of a class than its total",
-        "a pointer's target cannot be",
+        "a pointer's target is not of class 4 to 8, or leaves no room for a record after the "
+        "pointer",
         "a pointer points into the middle of a record",
         "a pointer points at a record of another class, group or subclass",
         "there are fewer records of a class than its total",
@@ -1109,7 +1111,8 @@ static inline const char *wl_refusal_text(uint64_t number)
         "a listing was asked of more than 65,536 bytes",
         "a watch was fed a 65th pointer record",
         "the window of time is undefined or invalid, or ends before it starts",
-        "the two products are unlike",
+        "the two products are unlike in instrument, type, level, spacecraft, SPHR or global "
+        "records",
         "the second product starts before the first stops",
         "the result would have over 2,147,483,647 bytes or over 999,999 records, or a sum does "
         "not fit its line",

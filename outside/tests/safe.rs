@@ -142,7 +142,7 @@ fn humidity_as_by_the_boundary() {
 fn words() {
     let refused = Product::judged(&[]).unwrap_err();
     assert_eq!((refused.fault, refused.place), (Fault::Unfinished, 0));
-    assert!(refused.to_string().starts_with("refused 17 at 0: finished short of 3,307 bytes"));
+    assert_eq!(refused.to_string(), "refused 17 at 0: the product is finished short of its main header or of its declared size");
     assert_eq!(Fault::ALL.map(Fault::number), std::array::from_fn(|k| k as u8 + 1));
     assert_eq!((Fault::of(0), Fault::of(40)), (None, None));
     assert_eq!(Time { day: 6209, milli: 86_400_999 }.to_string(), "2016-12-31T23:59:60.999Z");

@@ -130,7 +130,7 @@ static void leaves(void)
 static void words(void)
 {
     HOLD(strcmp(wl_refusal_text(WL_ACCEPTED), "accepted") == 0 && strcmp(wl_refusal_text(40), "unknown refusal") == 0);
-    HOLD(strcmp(wl_refusal_text(WL_UNLIKE), "the two products are unlike") == 0);
+    HOLD(strcmp(wl_refusal_text(WL_UNLIKE), "the two products are unlike in instrument, type, level, spacecraft, SPHR or global records") == 0);
     HOLD(strcmp(wl_class_text(WL_MPHR), "MPHR") == 0 && strcmp(wl_class_text(WL_MDR), "MDR") == 0);
     HOLD(strcmp(wl_class_text(0), "unknown class") == 0 && strcmp(wl_class_text(9), "unknown class") == 0);
     HOLD(strcmp(wl_group_text(WL_AVHRR_3), "AVHRR/3") == 0 && strcmp(wl_group_text(WL_ARCHIVE), "archive") == 0);

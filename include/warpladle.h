@@ -26,6 +26,9 @@
  * must not overlap with anything else that is lent. A refusal writes nothing into a room, a row, a
  * point or a value; what lies beyond what is written is kept.
  *
+ * The arrays have names too: at the end of this header stand structs of the same layout, functions
+ * wl_ask_NAME that take them and return the refusal, and words for the numbers.
+ *
  * WHAT COSTS WHAT. The judges read the main header's 3,307 bytes once, and of the other records the
  * header and a pointer's 7 bytes alone, so a product of 32 MiB in 100,000 records takes
  * milliseconds. wl_record judges the arrival anew and walks to record k at each call: for all
@@ -388,9 +391,10 @@ void wl_field(size_t k, uint8_t *room, size_t room_len, uint64_t answer[WL_LEN_F
 /* The field of a name, unpadded: 0, 0, its number, 0; or 22. */
 void wl_field_named(const uint8_t *name, size_t len, uint64_t answer[WL_LEN_ANSWER]);
 
-/* The point below the satellite at the product's start, or at its end where `which` is not 0: 0, 0,
- * 1, 0 with latitude and longitude in degrees in the point; 0, 0, 0, 0 where a field is undefined,
- * the point kept; or the refusal of a field query but 22, the point kept. */
+/* The point below the satellite at the product's start, or at its end where `which` is not 0 (enum
+ * wl_which): 0, 0, 1, 0 with latitude and longitude in degrees in the point; 0, 0, 0, 0 where a
+ * field is undefined, the point kept; or the refusal of a field query but 22, the point kept. */
+enum wl_which { WL_AT_START = 0, WL_AT_END = 1 };
 void wl_ground_point(const uint8_t *bytes, size_t len, uint8_t which, double point[WL_LEN_POINT],
                      uint64_t answer[WL_LEN_ANSWER]);
 

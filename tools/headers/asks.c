@@ -104,8 +104,9 @@ static void reports(void)
     ALIKE(report);
     HOLD(report.records[WL_MDR - 1] == numbers[WL_MDR] && report.bytes[WL_MDR - 1] == numbers[8 + WL_MDR] && report.gap_ms == numbers[17]);
     HOLD(report.overlap_ms == numbers[18] && report.undefined_pairs == numbers[19] && report.accepted == numbers[20]);
-    HOLD(wl_ask_ground_point(product, len, 0, &point, &there) == WL_ACCEPTED && there.defined == 1);
+    HOLD(wl_ask_ground_point(product, len, WL_AT_START, &point, &there) == WL_ACCEPTED && there.defined == 1);
     HOLD(point.latitude == 47.623 && point.longitude == -122.401);
+    HOLD(wl_ask_ground_point(product, len, WL_AT_END, &point, &there) == WL_ACCEPTED && point.latitude == 46.18);
 }
 
 static void leaves(void)

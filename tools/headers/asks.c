@@ -109,6 +109,28 @@ static void reports(void)
     HOLD(wl_ask_ground_point(product, len, WL_AT_END, &point, &there) == WL_ACCEPTED && point.latitude == 46.18);
 }
 
+/* A cut of the product, its join with the rest, whether it is a cut, and a recorded arrival: what one wrote another reads. */
+static void products(void)
+{
+    static uint8_t first[1 << 16], second[1 << 16], pass[1 << 17], recorded[1 << 10];
+    wl_written_answer one, two, both, record;
+    wl_check_answer check;
+    wl_verdict_answer verdict;
+    wl_replay_answer replay;
+    HOLD(wl_ask_cut(product, len, 1, 6000, 0, 1, 6000, 12000, first, sizeof first, &one) == WL_ACCEPTED);
+    HOLD(wl_ask_cut(product, len, 1, 6000, 12001, 1, 6000, 30000, second, sizeof second, &two) == WL_ACCEPTED);
+    HOLD(wl_ask_join_pass(first, (size_t)one.bytes, second, (size_t)two.bytes, pass, sizeof pass, &both) == WL_ACCEPTED);
+    HOLD(wl_ask_verdict(pass, (size_t)both.bytes, &verdict) == WL_ACCEPTED && verdict.records == 18);
+    HOLD(wl_ask_join(second, (size_t)two.bytes, first, (size_t)one.bytes, pass, sizeof pass, &both) == WL_OUT_OF_TIME);
+    HOLD(wl_ask_check_cut(product, len, first, (size_t)one.bytes, &check) == WL_ACCEPTED && check.is_cut == 1);
+    HOLD(wl_ask_check_cut(first, (size_t)one.bytes, product, len, &check) == WL_ACCEPTED && check.is_cut == 0 && check.at == 4015);
+    uint32_t lengths[2] = {4000, (uint32_t)len - 4000};
+    HOLD(wl_ask_record_arrival(lengths, 2, product, len, recorded, sizeof recorded, &record) == WL_ACCEPTED && record.bytes == 40);
+    HOLD(wl_ask_replay(recorded, (size_t)record.bytes, product, len, &replay) == WL_ACCEPTED && replay.differs == 0);
+    recorded[39] ^= 1; /* the count of the second answer */
+    HOLD(wl_ask_replay(recorded, (size_t)record.bytes, product, len, &replay) == WL_ACCEPTED && replay.differs == 1 && replay.part == 1);
+}
+
 static void leaves(void)
 {
     static const uint8_t scaled[3] = {0x01, 0xff, 0xff};
@@ -145,6 +167,7 @@ int main(void)
     records();
     fields();
     reports();
+    products();
     leaves();
     words();
     printf("%d held\n", held);

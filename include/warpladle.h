@@ -487,12 +487,12 @@ void wl_report_merge(uint64_t report[WL_LEN_REPORT], const uint64_t other[WL_LEN
  * products. 542 bytes of text, a header of 100, and for each of its M segments 36 bytes and N
  * blocks of 72, N of each segment's own */
 
-/* The blocks of a humidity file, each into the next place of both: line, column (1 to 80 each),
- * whether UTH is there, whether CSR is there; and UTH in percent and CSR in Kelvin, each with the
- * bits that stand in the file, or 0.0 where it is not finite. Then 0, 0, the number of blocks, 0,
- * and the places beyond kept; or the first fault in file order, 30 to 35; or 18 with the number of
- * blocks where fewer of either are lent. Of a refusal nothing is written. With rooms of no places
- * it says how many are needed. */
+/* The blocks of a humidity file, each into the next place of `blocks` and of `values`: line, column
+ * (1 to 80 each), whether UTH is there, whether CSR is there; and UTH in percent and CSR in Kelvin,
+ * each with the bits that stand in the file, or 0.0 where it is not finite. Then 0, 0, the number
+ * of blocks, 0, and the places beyond kept; or the first fault in file order, 30 to 35; or 18 with
+ * the number of blocks where fewer places of either are lent. Of a refusal nothing is written. With
+ * no places it says how many are needed. */
 void wl_uth(const uint8_t *bytes, size_t len, uint32_t (*blocks)[WL_LEN_BLOCK], size_t blocks_len,
             float (*values)[WL_LEN_VALUES], size_t values_len, uint64_t answer[WL_LEN_ANSWER]);
 

@@ -151,7 +151,12 @@ def test_the_watch_waits_for_the_last_block_of_a_file_that_had_holes(tmp_path, s
 
 
 def is_open_in(process, path):
-    return any(os.path.realpath(f'/proc/{process}/fd/{fd}') == str(path) for fd in os.listdir(f'/proc/{process}/fd'))
+    """Whether a process has the file open; a descriptor may be closed while it is looked at."""
+    try:
+        handles = os.listdir(f'/proc/{process}/fd')
+        return any(os.path.realpath(f'/proc/{process}/fd/{handle}') == str(path) for handle in handles)
+    except FileNotFoundError:
+        return False
 
 
 # ---- outputs

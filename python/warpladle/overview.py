@@ -16,7 +16,7 @@ from .library import ask
 from .product import Product
 from .refusal import State
 from .report import FULL, NUMBERS, Report, named_numbers, report_lines
-from .summary import iso_text
+from .summary import identity_of
 from .times import Time, between
 
 Entry = dict[str, Any]
@@ -48,16 +48,7 @@ def header_of(product: Product) -> Entry:
     from .refusal import Refused
 
     try:
-        return {
-            'product_name': product.text('PRODUCT_NAME'),
-            'spacecraft': product.text('SPACECRAFT_ID'),
-            'instrument': product.text('INSTRUMENT_ID'),
-            'type': product.text('PRODUCT_TYPE'),
-            'level': product.text('PROCESSING_LEVEL'),
-            'sensing_start': iso_text(product.field('SENSING_START')),
-            'sensing_end': iso_text(product.field('SENSING_END')),
-            'header': f'{zlib.crc32(product.data[:HEAD]):08x}',
-        }
+        return {**identity_of(product), 'header': f'{zlib.crc32(product.data[:HEAD]):08x}'}
     except Refused:
         return {}
 

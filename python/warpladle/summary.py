@@ -33,8 +33,11 @@ def info_of(product: Product) -> dict[str, Any]:
     return found
 
 
-def _header_info(product: Product) -> dict[str, Any]:
-    start, end = product.ground_point('start'), product.ground_point('end')
+def identity_of(product: Product) -> dict[str, Any]:
+    """What a product is of, and when it was sensed.
+
+    Raises Refused: of a main header that cannot be read.
+    """
     return {
         'product_name': product.text('PRODUCT_NAME'),
         'spacecraft': product.text('SPACECRAFT_ID'),
@@ -43,6 +46,13 @@ def _header_info(product: Product) -> dict[str, Any]:
         'level': product.text('PROCESSING_LEVEL'),
         'sensing_start': iso_text(product.field('SENSING_START')),
         'sensing_end': iso_text(product.field('SENSING_END')),
+    }
+
+
+def _header_info(product: Product) -> dict[str, Any]:
+    start, end = product.ground_point('start'), product.ground_point('end')
+    return {
+        **identity_of(product),
         'orbit_start': product.number('ORBIT_START'),
         'orbit_end': product.number('ORBIT_END'),
         'ground_start': None if start is None else list(start),

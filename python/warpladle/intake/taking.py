@@ -12,8 +12,10 @@ import shutil
 from typing import NamedTuple
 
 from ..files import PART, CutShort, read_file
+from ..headers import HEAD
 from ..product import Product
 from ..refusal import Refused
+from ..summary import identity_of
 from ..watch import Watch
 from .arriving import Stamp, judge_whole
 
@@ -136,17 +138,11 @@ def _is_fed(watch: Watch, part: bytes) -> bool:
 
 def _sensing(data: bytes | bytearray) -> tuple[str | None, str | None]:
     """SENSING_START and SENSING_END, where the main header reads."""
-    product = Product(bytes(data[:3307]))
-    found: list[str | None] = []
-    for name in ('SENSING_START', 'SENSING_END'):
-        try:
-            value = product.field(name)
-        except Refused:
-            value = None
-        found.append(
-            None if value is None else str(getattr(value, 'isoformat', lambda: value)()).replace('+00:00', 'Z')
-        )
-    return found[0], found[1]
+    try:
+        known = identity_of(Product(bytes(data[:HEAD])))
+    except Refused:
+        return None, None
+    return known['sensing_start'], known['sensing_end']
 
 
 def is_same_file(path: str, judged: Judged) -> bool:

@@ -1,4 +1,6 @@
 // Bytes compared, by eights: two parts of as many bytes are the same.
+#![tactic(auto)]
+
 ghost use Rattle.std.specs.Prelude.{◌≡◌, ◌+◌, ◌*◌, ◌≤◌, ◌<◌, length, take, drop};
 ghost use Rattle.meter.specs.Integer.{be_at};
 ghost use Rattle.mphr.specs.Turning.{Alike};

@@ -1,23 +1,25 @@
 // Dates of the Gregorian calendar, years 0000 to 9999, and their day numbers, 0 to 65535 from 1 January 2000.
+#![tactic(auto)]
+
 ghost use Rattle.std.specs.Prelude.{◌≡◌, ◌≤◌, ◌<◌};
 ghost use Rattle.calendar.specs.Calendar.{leap, days_in, is_date, date_of, day_number_of, said_day, leap_day, leap_date};
 ghost use Rattle.calendar.specs.Closed.{layout_of, month_at, start_of, shift_of, closed_number};
 
 // Why nothing else is answered: the paper's number, and the place that goes with it.
-#[derive(Drop)]
+#[derive(Clone, Copy)]
 pub struct Refusal {
     pub number: u8,
     pub place: usize,
 }
 
-#[derive(Drop)]
+#[derive(Clone, Copy)]
 pub struct Date {
     pub year: u16,
     pub month: u8,
     pub day: u8,
 }
 
-#[derive(Drop)]
+#[derive(Clone, Copy)]
 pub enum DayNumber {
     Day(u16),
     Refused(Refusal),

@@ -10,7 +10,7 @@ use meter::integer::Written;
 
 // Its tag (0 a value, 1 a refusal, and others that a program gives a meaning), a refusal's number, five numbers of which the first is a
 // refusal's place, and whether what was lent is as it should be.
-#[derive(Drop)]
+#[derive(Clone, Copy)]
 pub struct Answer {
     pub tag: u8,
     pub number: u8,

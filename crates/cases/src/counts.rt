@@ -4,7 +4,7 @@ ghost use Rattle.cases.specs.Answers.{countsOf, countedAs};
 
 use crate::print::{name_of, number, say};
 
-#[derive(Drop)]
+#[derive(Clone, Copy)]
 pub struct Counts {
     pub agreed: [u64; 32],
     pub disagreed: [u64; 32],

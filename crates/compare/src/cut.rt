@@ -10,7 +10,7 @@ use calendar::Refusal;
 use finish::{Finished, verdict};
 
 // `Not` has its place.
-#[derive(Drop)]
+#[derive(Clone, Copy)]
 pub enum Checked {
     Refused(Refusal),
     Is,

@@ -7,20 +7,20 @@ use crate::same::is_record;
 use record::header::size_at;
 
 // Where the walk goes on after a match.
-#[derive(Drop)]
+#[derive(Clone, Copy)]
 enum Taken {
     Nowhere,
     After(usize),
 }
 
-#[derive(Drop)]
+#[derive(Clone, Copy)]
 enum Turned {
     Unmatched,
     Go { fixed: usize, mdr: usize },
 }
 
 // What the records say; `Unlike` has its place.
-#[derive(Drop)]
+#[derive(Clone, Copy)]
 pub(crate) enum Compared {
     Alike,
     Unlike(usize),

@@ -1,4 +1,6 @@
 // Whether one product is a cut of another, for C.
+#![tactic(auto)]
+
 ghost use Rattle.std.specs.Prelude.{◌≡◌};
 ghost use Rattle.compare_c.specs.Checking.{checked_said, CheckTold};
 

@@ -1,5 +1,7 @@
 // Checks each pair of products of standard input, an original and a cut, and prints the answers. A case is 8 bytes and the two products
 // (tools/compare-cases says which and writes them).
+#![tactic(auto)]
+
 use cases::input::{read, read_part, word};
 use cases::print::{number, refusal, say};
 use compare::cut::Checked;

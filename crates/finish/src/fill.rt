@@ -9,7 +9,7 @@ use judge::stretch::Stretch as Even;
 use record::header::size_at;
 
 // How many rows are in the list, and where the next record starts.
-#[derive(Drop)]
+#[derive(Clone, Copy)]
 pub struct Reached {
     pub count: usize,
     pub end: usize,

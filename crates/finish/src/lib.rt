@@ -1,5 +1,7 @@
 // Finished products: the verdict, which is the arrival judge's refusals and then 17; and the lister, which judges for itself and then
 // gives 18, or fills a row for each record into the lent list, by a profile where one is asked for.
+#![tactic(auto)]
+
 mod fill;
 mod profile;
 mod row;
@@ -16,7 +18,7 @@ use judge::arrival::{Extent, judge_extent, survey};
 use judge::profile::NO_PROFILE;
 use judge::stretch::Stretch as Even;
 
-#[derive(Drop)]
+#[derive(Clone, Copy)]
 pub enum Finished {
     Accepted { count: usize },
     Refused(Refusal),

@@ -8,7 +8,7 @@ use judge::profile::allows;
 use record::header::size_at;
 
 // `At` has its place.
-#[derive(Drop)]
+#[derive(Clone, Copy)]
 pub enum Against {
     Nowhere,
     At(usize),

@@ -18,14 +18,14 @@ use crate::stretch::{Stretch, no_notes, no_stretch, noted};
 use calendar::Refusal;
 use mphr::faults::HeaderFault;
 
-#[derive(Drop)]
+#[derive(Clone, Copy)]
 pub enum Arrival {
     Waiting { count: usize, end: usize },
     Refused(Refusal),
 }
 
 // Whether all of a product has come, with the count of its records.
-#[derive(Drop)]
+#[derive(Clone, Copy)]
 pub enum Extent {
     Part,
     Entire { count: usize },
@@ -34,14 +34,14 @@ pub enum Extent {
 
 // What is to be said of an arrival, a stretch of records of one size in it, and a byte up to which the records after the main header meet
 // a profile.
-#[derive(Drop)]
+#[derive(Clone, Copy)]
 pub struct Walked {
     pub answer: Arrival,
     pub stretch: Stretch,
     pub met: usize,
 }
 
-#[derive(Drop)]
+#[derive(Clone, Copy)]
 pub struct Surveyed {
     pub extent: Extent,
     pub stretch: Stretch,
@@ -49,7 +49,7 @@ pub struct Surveyed {
 }
 
 // What a record comes to.
-#[derive(Drop)]
+#[derive(Clone, Copy)]
 pub enum Turned {
     Stop(Arrival),
     Go {

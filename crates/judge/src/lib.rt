@@ -1,4 +1,6 @@
 // Judges arrivals and finished products by 01's table of faults.
+#![tactic(auto)]
+
 pub use calendar::Refusal;
 
 pub mod arrival;

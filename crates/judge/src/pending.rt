@@ -13,7 +13,7 @@ use crate::sorting::sort;
 
 // What is held: the first that is still to come, how many there are, the edge below which all are held, the end of the last pointer that
 // was looked at, and a byte before which no pointer tells against the record at hand or points past it.
-#[derive(Drop)]
+#[derive(Clone, Copy)]
 pub struct Hold {
     pub next: usize,
     pub count: usize,

@@ -10,7 +10,7 @@ use crate::header::{is_part, triple, word};
 
 // What is known of the pointer records met so far: where the last of them ends; a byte before which none of them points further on;
 // the first that does; the last one's target, and whether the targets have never descended.
-#[derive(Drop)]
+#[derive(Clone, Copy)]
 pub struct Pointers {
     pub end: usize,
     pub due: usize,
@@ -21,7 +21,7 @@ pub struct Pointers {
 
 // What the pointers say of a record: one points inside it; one points at it and names another kind; or neither, and then what is
 // known of those that point past it.
-#[derive(Drop)]
+#[derive(Clone, Copy)]
 pub enum Settled {
     Inside(usize),
     Other(usize),
@@ -29,7 +29,7 @@ pub enum Settled {
 }
 
 // What the body of a record comes to: it has not all come; 1 to 19 bytes are left after it; its target is bad; or it is whole.
-#[derive(Drop)]
+#[derive(Clone, Copy)]
 pub enum Body {
     Part,
     Six,
@@ -54,7 +54,7 @@ pub(crate) fn no_pointers(d: usize) -> Pointers
 }
 
 // What a record is to a search: no pointer, one that is not looked for, the one that is, or past it.
-#[derive(Drop)]
+#[derive(Clone, Copy)]
 pub enum Look {
     Pass,
     Miss,

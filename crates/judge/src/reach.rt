@@ -8,7 +8,7 @@ use crate::pointers::{ANY, Look, look_at};
 use crate::run::lesser;
 
 // How many parts the room has places for, and how many places are left.
-#[derive(Drop)]
+#[derive(Clone, Copy)]
 pub struct Fit {
     pub parts: usize,
     pub left: usize,

@@ -9,7 +9,7 @@ ghost use Rattle.judge.specs.Run.{Liking, LikeIs, RunIs};
 use crate::header::{may_follow, word};
 
 // How many records, and where the last ends.
-#[derive(Drop)]
+#[derive(Clone, Copy)]
 pub struct Run {
     pub count: usize,
     pub end: usize,

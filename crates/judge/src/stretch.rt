@@ -3,7 +3,7 @@ ghost use Rattle.std.specs.Prelude.{◌≡◌, ◌+◌, ◌≤◌, ◌⊎◌};
 ghost use Rattle.judge.specs.Stretch.{no_stretch, GrownIs, no_notes, NotedIs};
 
 // From byte `from` up to byte `end` are `count` records of the size.
-#[derive(Drop)]
+#[derive(Clone, Copy)]
 pub struct Stretch {
     pub from: usize,
     pub size: usize,
@@ -54,7 +54,7 @@ fn longer(one: Stretch, other: Stretch) -> Stretch
 }
 
 // The stretch under way, and the one with the most records so far.
-#[derive(Drop)]
+#[derive(Clone, Copy)]
 pub struct Notes {
     pub last: Stretch,
     pub longest: Stretch,

@@ -2,6 +2,8 @@
 // expected text does; then rows into rooms of several sizes, queries, and ground points. A case (tools/judge-cases writes them) is four
 // big-endian numbers of 4 bytes, a product and the rows that are due: the kind, the number to print, the product's length, and how many
 // records to ask for, or how many bytes of rows there are.
+#![tactic(auto)]
+
 mod answers;
 mod products;
 mod queries;

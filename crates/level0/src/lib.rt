@@ -1,4 +1,6 @@
 // The Level 0 profile (02, request Nine): the finished judge, and then 002's tables of Level 0 records.
+#![tactic(auto)]
+
 ghost use Rattle.level0.specs.Profile.{Level0Is};
 
 pub use finish::Finished;

@@ -1,5 +1,7 @@
 // Prints the listing of the product in the file that its argument names, or on standard input; a refusal is one line.
 // What cannot be read or written is a line on standard error: a program has no exit status here (docs/DECISIONS.md, F30).
+#![tactic(auto)]
+
 ghost use Rattle.std.specs.Prelude.{length};
 ghost use Rattle.list.specs.Reading.{ReadIs};
 
@@ -17,7 +19,7 @@ product of any size there is ./warpladle list FILE, and for programs libwarpladl
 whose wl_rows gives these numbers of each record.\n\
 README.md has the numbers, the places, the classes and the groups.\n";
 
-#[derive(Drop)]
+#[derive(Clone, Copy)]
 pub enum Input {
     Bytes(usize),
     Failed,

@@ -1,6 +1,8 @@
 // Lists each product of standard input into a room of the size that is asked, and prints the text, or the refusal's line, which is
 // written into the same room. A case is eight bytes, the product's length and the room's, and then the product (tools/list-cases
 // writes them).
+#![tactic(auto)]
+
 use calendar::Refusal;
 use cases::input::{fitting, part, read, read_part, word};
 use cases::print::{number, say};

@@ -1,4 +1,6 @@
 // The listing of a product's records as text, and the line of a refusal.
+#![tactic(auto)]
+
 ghost use Rattle.std.specs.Prelude.{◌≡◌, true, ◌++◌, ◌+◌, ◌≤◌, ◌<◌, length};
 ghost use Rattle.text.specs.Writing.{fits_text};
 ghost use Rattle.listing.specs.Decimal.{decimal, column, Puts};
@@ -8,7 +10,7 @@ use calendar::Refusal;
 use judge::arrival::{Extent, judge_extent};
 use record::header::size_at;
 
-#[derive(Drop)]
+#[derive(Clone, Copy)]
 pub enum Listed {
     Bytes(usize),
     Refused(Refusal),

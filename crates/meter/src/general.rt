@@ -11,7 +11,7 @@ use crate::integer::Written;
 use crate::time::{Time, TimeRead};
 use calendar::{Date, DayNumber, Refusal};
 
-#[derive(Drop)]
+#[derive(Clone, Copy)]
 pub struct Moment {
     pub date: Date,
     pub hour: u8,
@@ -20,13 +20,13 @@ pub struct Moment {
     pub milli: u16,
 }
 
-#[derive(Drop)]
+#[derive(Clone, Copy)]
 pub enum General {
     Undefined,
     At(Moment),
 }
 
-#[derive(Drop)]
+#[derive(Clone, Copy)]
 pub enum GeneralRead {
     Time(General),
     Refused(Refusal),

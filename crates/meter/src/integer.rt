@@ -6,20 +6,20 @@ ghost use Rattle.meter.specs.Integer.{said_unsigned, unsigned_at, said_signed, s
 
 use calendar::Refusal;
 
-#[derive(Drop)]
+#[derive(Clone, Copy)]
 pub enum Unsigned {
     Value(u64),
     Refused(Refusal),
 }
 
-#[derive(Drop)]
+#[derive(Clone, Copy)]
 pub enum Signed {
     Value(i64),
     Refused(Refusal),
 }
 
 // How many bytes were written, from the start of the lent room.
-#[derive(Drop)]
+#[derive(Clone, Copy)]
 pub enum Written {
     Bytes(usize),
     Refused(Refusal),

@@ -11,40 +11,40 @@ ghost use Rattle.meter.specs.Reading.{quotient, converted, carried, shown_as, re
 use crate::integer::Written;
 use calendar::Refusal;
 
-#[derive(Drop)]
+#[derive(Clone, Copy)]
 pub enum Scaled {
     Undefined,
     Number { integer: i64, scale: i8 },
 }
 
-#[derive(Drop)]
+#[derive(Clone, Copy)]
 pub enum ScaledRead {
     Scaled(Scaled),
     Refused(Refusal),
 }
 
 // A number of units of the last decimal kept.
-#[derive(Drop)]
+#[derive(Clone, Copy)]
 pub enum Decimal {
     Undefined,
     Whole(i64),
 }
 
-#[derive(Drop)]
+#[derive(Clone, Copy)]
 pub enum Rounded {
     Decimal(Decimal),
     Refused(Refusal),
 }
 
 // What a meter shows.
-#[derive(Drop)]
+#[derive(Clone, Copy)]
 pub enum Reading {
     Missing,
     Whole(f64),
     Between(f64),
 }
 
-#[derive(Drop)]
+#[derive(Clone, Copy)]
 pub enum Shown {
     Reading(Reading),
     Refused(Refusal),

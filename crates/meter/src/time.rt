@@ -6,26 +6,26 @@ ghost use Rattle.meter.specs.Time.{order_of, compared, said_order, WritesTime, T
 use crate::integer::Written;
 use calendar::Refusal;
 
-#[derive(Drop)]
+#[derive(Clone, Copy)]
 pub enum Time {
     Undefined,
     At { day: u16, milli: u32 },
 }
 
-#[derive(Drop)]
+#[derive(Clone, Copy)]
 pub enum TimeRead {
     Time(Time),
     Refused(Refusal),
 }
 
-#[derive(Drop)]
+#[derive(Clone, Copy)]
 pub enum Order {
     Before,
     Same,
     After,
 }
 
-#[derive(Drop)]
+#[derive(Clone, Copy)]
 pub enum TimeOrder {
     Order(Order),
     Refused(Refusal),

@@ -1,6 +1,8 @@
 // Runs the leaf vectors and the paper's cases on `calendar` and `meter`. A case is 96 bytes of standard input (tools/leaf-cases
 // writes them): byte 0 its kind, then what is handed in, and from byte 48 on the answer that it should get. Prints how many cases
 // of each kind agreed, and each disagreement whole.
+#![tactic(auto)]
+
 use calendar::{Date, DayNumber};
 use cases::answer::{Answer, judged, refused, tagged, value, written};
 use cases::counts::{Counts, counted, none, print_counts};

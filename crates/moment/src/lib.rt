@@ -1,4 +1,6 @@
 // The line of milliseconds, on which each of request Two's days has its extra second (02, request Twelve).
+#![tactic(auto)]
+
 ghost use Rattle.std.specs.Prelude.{◌≡◌, ◌+◌, ◌-◌, ◌/◌, ◌%◌, ◌≤◌, ◌<◌};
 ghost use Rattle.meter.specs.Time.{time_of};
 ghost use Rattle.moment.specs.Moment.{extra_before, on_line, overlap_between, undefined_between};
@@ -10,7 +12,7 @@ use meter::time::Time;
 const UNDEFINED: u64 = 0xffff_ffff_ffff;
 
 // What a pair adds: milliseconds of gap, of overlap, and 1 where one of its times is undefined.
-#[derive(Drop)]
+#[derive(Clone, Copy)]
 pub struct Between {
     pub gap: u64,
     pub overlap: u64,

@@ -8,7 +8,7 @@ use crate::bits::{bits_at, place, size_in};
 use moment::time_between;
 
 // What the pairs came to, and where the last MDR stands: 0 where there was none.
-#[derive(Drop)]
+#[derive(Clone, Copy)]
 pub(crate) struct Pairs {
     pub last: usize,
     pub gap: u64,

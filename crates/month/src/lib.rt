@@ -1,4 +1,6 @@
 // The month report (02, request Twelve).
+#![tactic(auto)]
+
 pub use calendar::Refusal;
 
 mod bits;

@@ -12,14 +12,14 @@ use calendar::Refusal;
 use finish::{Finished, verdict};
 
 // `Refused` is 36: the report is as it was.
-#[derive(Drop)]
+#[derive(Clone, Copy)]
 pub enum Merged {
     Done,
     Refused(Refusal),
 }
 
 // `Tallied` has the product's own refusal, which is counted; `Refused` is 36, as above.
-#[derive(Drop)]
+#[derive(Clone, Copy)]
 pub enum Added {
     Accepted,
     Tallied(Refusal),

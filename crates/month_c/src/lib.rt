@@ -1,4 +1,6 @@
 // The report of a month, for C.
+#![tactic(auto)]
+
 ghost use Rattle.std.specs.Prelude.{◌≡◌};
 ghost use Rattle.told.specs.Told.{four};
 ghost use Rattle.month_c.specs.Reporting.{added_said, merged_said, AddTold, MergeTold};

@@ -1,5 +1,7 @@
 // Runs the orders of standard input on two reports and prints the answers. An order is 9 bytes and data (tools/month-cases says which and
 // writes them): the first byte says what to do, the next 4 how many times, the last 4 how many bytes of data follow.
+#![tactic(auto)]
+
 use calendar::Refusal;
 use cases::input::{byte, read, read_part, word};
 use cases::print::{number, refusal, say};

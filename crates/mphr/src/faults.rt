@@ -13,21 +13,21 @@ use meter::integer::Unsigned;
 use text::count_at;
 
 // The first fault that is shown, or none.
-#[derive(Drop)]
+#[derive(Clone, Copy)]
 pub enum HeaderFault {
     Clean,
     Refused(Refusal),
 }
 
 // What has come: the first fault that is shown; or none, with the line that is under way and where it ends.
-#[derive(Drop)]
+#[derive(Clone, Copy)]
 pub enum Reached {
     Refused(Refusal),
     Line { line: usize, end: usize },
 }
 
 // What a line comes to.
-#[derive(Drop)]
+#[derive(Clone, Copy)]
 enum Turned {
     Stop(Reached),
     Go(usize),

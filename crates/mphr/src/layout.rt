@@ -9,14 +9,14 @@ use calendar::Refusal;
 use text::Kind;
 
 // A field: where its line starts, how wide its value is, and of which kind.
-#[derive(Drop)]
+#[derive(Clone, Copy)]
 pub struct Place {
     pub start: usize,
     pub width: usize,
     pub kind: Kind,
 }
 
-#[derive(Drop)]
+#[derive(Clone, Copy)]
 pub enum FieldPlace {
     Place(Place),
     Refused(Refusal),

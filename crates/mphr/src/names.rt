@@ -12,7 +12,7 @@ use crate::rows::{BY_FIRST, BY_LAST, BY_MIDDLE, fields_at, letters_of};
 use calendar::Refusal;
 use meter::integer::Written;
 
-#[derive(Drop)]
+#[derive(Clone, Copy)]
 pub enum FieldNumber {
     Field(usize),
     Refused(Refusal),

@@ -2,6 +2,8 @@
 // of standard input (tools/line-cases writes them): byte 0 its kind, then what is handed in, from byte 80 on the answer that it should
 // get, and from 112 on the room at exit. A header's case is followed by the header, and its prefixes are judged one by one. Prints how
 // many cases of each kind agreed, and how many prefixes, and each disagreement whole.
+#![tactic(auto)]
+
 use calendar::Date;
 use cases::answer::{Answer, judged, refused, value, written};
 use cases::counts::{Counts, counted, none, print_counts};

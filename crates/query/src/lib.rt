@@ -1,4 +1,6 @@
 // Queries of a product, arriving or whole: a record by its number, a field of the main header by its number, the ground point.
+#![tactic(auto)]
+
 ghost use Rattle.std.specs.Prelude.{◌≡◌, true, false, ◌+◌, ◌≤◌, ◌<◌, length};
 ghost use Rattle.query.specs.Query.{refusal_of, StartOf, RecordIs, Reachable, sort_of, times_of, sort_number, no_field, FieldIs, TextIs};
 ghost use Rattle.query.specs.Query.{NumberIs, TimeIs, latitude_field, point_of, PointIs, Exact};
@@ -10,39 +12,39 @@ use mphr::layout::FieldPlace;
 use record::header::{Header, HeaderRead, size_at};
 use text::{Kind, Number, NumberRead};
 
-#[derive(Drop)]
+#[derive(Clone, Copy)]
 pub enum RecordAnswer {
     Record { start: usize, header: Header },
     Refused(Refusal),
 }
 
 // Where the value of a field stands.
-#[derive(Drop)]
+#[derive(Clone, Copy)]
 pub enum FieldAnswer {
     Part { start: usize, width: usize },
     Refused(Refusal),
 }
 
-#[derive(Drop)]
+#[derive(Clone, Copy)]
 pub enum NumberAnswer {
     Number(Number),
     Refused(Refusal),
 }
 
-#[derive(Drop)]
+#[derive(Clone, Copy)]
 pub enum TimeAnswer {
     Time(General),
     Refused(Refusal),
 }
 
 // Degrees, north and east.
-#[derive(Drop)]
+#[derive(Clone, Copy)]
 pub struct GroundPoint {
     pub latitude: f64,
     pub longitude: f64,
 }
 
-#[derive(Drop)]
+#[derive(Clone, Copy)]
 pub enum PointAnswer {
     Point(GroundPoint),
     Missing,
@@ -50,7 +52,7 @@ pub enum PointAnswer {
 }
 
 // The sorts of fields; a number may have a sign or not.
-#[derive(Drop)]
+#[derive(Clone, Copy)]
 enum Sort {
     Numbers,
     Times,

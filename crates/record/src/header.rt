@@ -9,7 +9,7 @@ use calendar::Refusal;
 use meter::integer::{Unsigned, Written, holds};
 use meter::time::{Time, TimeRead};
 
-#[derive(Drop)]
+#[derive(Clone, Copy)]
 pub struct Header {
     pub class: u8,
     pub group: u8,
@@ -20,7 +20,7 @@ pub struct Header {
     pub stop: Time,
 }
 
-#[derive(Drop)]
+#[derive(Clone, Copy)]
 pub enum HeaderRead {
     Header(Header),
     Refused(Refusal),

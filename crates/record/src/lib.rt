@@ -1,4 +1,6 @@
 // Record headers, pointer records, and which class of record may follow which.
+#![tactic(auto)]
+
 pub use calendar::Refusal;
 
 pub mod follow;

@@ -8,7 +8,7 @@ use calendar::Refusal;
 use meter::integer::Written;
 
 // The header, then the target: its class, group and subclass, and its offset from the product's first byte.
-#[derive(Drop)]
+#[derive(Clone, Copy)]
 pub struct Pointer {
     pub header: Header,
     pub class: u8,
@@ -17,7 +17,7 @@ pub struct Pointer {
     pub offset: u32,
 }
 
-#[derive(Drop)]
+#[derive(Clone, Copy)]
 pub enum PointerRead {
     Pointer(Pointer),
     Refused(Refusal),

@@ -1,6 +1,8 @@
 // Runs the header vectors, pointer records and the follow table on `record`. A case is 96 bytes of standard input (tools/header-cases
 // writes them): byte 0 its kind, then what is handed in, and from byte 48 on the answer that it should get. Prints how many cases
 // of each kind agreed, and each disagreement whole.
+#![tactic(auto)]
+
 use cases::answer::{Answer, judged, refused, values, written};
 use cases::counts::{Counts, counted, none, print_counts};
 use cases::input::{byte, fitting, is_same, part, read, word};

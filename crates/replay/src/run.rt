@@ -9,7 +9,7 @@ use calendar::Refusal;
 use judge::arrival::Arrival;
 
 // `Differs` has the first part whose answer differs, counted from 0.
-#[derive(Drop)]
+#[derive(Clone, Copy)]
 pub enum Replayed {
     Refused(Refusal),
     Same,

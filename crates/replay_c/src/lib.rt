@@ -1,4 +1,6 @@
 // An arrival recorded and replayed, for C.
+#![tactic(auto)]
+
 ghost use Rattle.std.specs.Prelude.{◌≡◌};
 ghost use Rattle.replay_c.specs.Replaying.{replayed_said, ReplayTold, RecordTold};
 

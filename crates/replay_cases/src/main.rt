@@ -1,6 +1,8 @@
 // Replays each record of standard input with its product, or records a product's arrival in parts of given lengths into rooms of the sizes
 // that are asked, and prints the answers; and `lost` where a room does not hold what the case asks for. A case is 13 bytes, the product,
 // the record or the lengths, and the rooms (tools/replay-cases says which and writes them).
+#![tactic(auto)]
+
 use cases::input::{byte, fitting, is_same, read, read_part, word};
 use cases::print::{number, refusal, say};
 use libc::STDIN_FILENO;

@@ -18,7 +18,7 @@ fn gather_one(s: &[u8], at: usize, n: usize, table: &mut [u32], tally: &mut [usi
 }
 
 // How many records were gathered, and where the next one starts.
-#[derive(Drop)]
+#[derive(Clone, Copy)]
 pub struct Reached {
     pub records: usize,
     pub at: usize,

@@ -1,5 +1,7 @@
 // New products written from old ones into a lent room: the cut of a product to a window of time, and two products joined
 // into one (02, requests Three and Seven).
+#![tactic(auto)]
+
 pub use calendar::Refusal;
 
 mod copy;

@@ -6,7 +6,7 @@ use crate::kinds::kinds_in;
 use calendar::Refusal;
 
 // 28 or 18; or where the records after the pointers start, and how many bytes the product has.
-#[derive(Drop)]
+#[derive(Clone, Copy)]
 pub enum Plan {
     Refused(Refusal),
     Size { base: usize, size: usize },

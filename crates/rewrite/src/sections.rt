@@ -8,7 +8,7 @@ use meter::time::Time;
 use record::header::size_at;
 
 // The bytes of the SPHR, of the pointers, of the global and of the variable records; what is left are MDRs.
-#[derive(Drop)]
+#[derive(Clone, Copy)]
 pub struct Sections {
     pub sphr: usize,
     pub ipr: usize,
@@ -58,7 +58,7 @@ fn later_place(s: &[u8], place: usize, at: usize) -> usize
 }
 
 // The place of the last record with a defined stop before `at`, or 0.
-#[derive(Drop)]
+#[derive(Clone, Copy)]
 pub struct Stopped {
     pub at: usize,
     pub place: usize,

@@ -11,7 +11,7 @@ use meter::time::Time;
 use record::header::size_at;
 
 // The bytes of the SPHR and of the records that are kept, how many records these are, the earliest start and the latest stop of the MDRs.
-#[derive(Drop)]
+#[derive(Clone, Copy)]
 pub struct Sums {
     pub front: usize,
     pub kept: usize,

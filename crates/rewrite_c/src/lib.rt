@@ -1,4 +1,6 @@
 // New products written from old ones, for C.
+#![tactic(auto)]
+
 ghost use Rattle.told.specs.Given.{is_set, time_given};
 ghost use Rattle.parts.specs.Join.{identical, granules};
 ghost use Rattle.rewrite_c.specs.Rewriting.{CutTold, JoinTold};

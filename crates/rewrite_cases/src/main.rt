@@ -2,6 +2,8 @@
 // answers; and `lost` where a room does not hold what the case asks for. A case is 31 bytes, the product, the second one, what is to be
 // written and the rooms' sizes (tools/rewrite-cases says which and writes them). Of a pass all granules are joined, from the first to the
 // last.
+#![tactic(auto)]
+
 use cases::input::{byte, fitting, part, read, read_part, word};
 use cases::print::{number, refusal, say};
 use libc::STDIN_FILENO;

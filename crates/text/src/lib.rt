@@ -1,4 +1,6 @@
 // The value of a header field by its kind: text, unsigned, signed, time, long time; its grammar, its exact number, and writing it.
+#![tactic(auto)]
+
 ghost use Rattle.std.specs.Prelude.{◌≡◌, ◌&&◌, ◌||◌, ℕ, ◌+◌, ◌-◌, ◌^◌, ◌≤◌, ◌<◌, eqb, nat_abs, length};
 ghost use Rattle.meter.specs.Lent.{inside};
 ghost use Rattle.meter.specs.General.{digits_of, run_of, each, number_of, is_general, put_x};
@@ -11,7 +13,7 @@ use meter::general::GeneralRead;
 use meter::integer::{Written, holds};
 
 // Count is the kind of the size and the totals: an unsigned number that is never undefined.
-#[derive(Drop)]
+#[derive(Clone, Copy)]
 pub enum Kind {
     Text,
     Unsigned,
@@ -21,13 +23,13 @@ pub enum Kind {
     LongTime,
 }
 
-#[derive(Drop)]
+#[derive(Clone, Copy)]
 pub enum Number {
     Undefined,
     Whole(i64),
 }
 
-#[derive(Drop)]
+#[derive(Clone, Copy)]
 pub enum NumberRead {
     Number(Number),
     Refused(Refusal),

@@ -119,7 +119,7 @@ pub fn put_general(answer: &mut [u64; 12], time: General)
 }
 
 // A time of a header.
-#[derive(Drop)]
+#[derive(Clone, Copy)]
 pub struct TimeWords {
     pub defined: u64,
     pub day: u64,

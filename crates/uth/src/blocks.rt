@@ -8,7 +8,7 @@ use crate::judge::{Count, judge, refused};
 use crate::value::{Value, value_at, word};
 use calendar::Refusal;
 
-#[derive(Drop)]
+#[derive(Clone, Copy)]
 pub struct Block {
     pub line: u32,
     pub column: u32,
@@ -16,7 +16,7 @@ pub struct Block {
     pub csr: Value,
 }
 
-#[derive(Drop)]
+#[derive(Clone, Copy)]
 pub enum BlockRead {
     Block(Block),
     Refused(Refusal),

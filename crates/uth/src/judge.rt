@@ -8,7 +8,7 @@ use crate::value::word;
 use calendar::Refusal;
 
 // How many blocks, of a segment or of a file.
-#[derive(Drop)]
+#[derive(Clone, Copy)]
 pub enum Count {
     Blocks(usize),
     Refused(Refusal),

@@ -1,4 +1,6 @@
 // Humidity files, for C.
+#![tactic(auto)]
+
 ghost use Rattle.std.specs.Prelude.{◌≡◌};
 ghost use Rattle.uth_c.specs.Humidity.{count_said, UthTold};
 

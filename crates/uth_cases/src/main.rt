@@ -1,6 +1,8 @@
 // Reads each humidity file of standard input into rooms of the sizes that are asked, and prints the answers and what the rooms then hold;
 // then some of its blocks, each by itself. A case is 12 bytes, the file, and the sizes of the rooms (tools/uth-cases says which and writes
 // them).
+#![tactic(auto)]
+
 ghost use Rattle.std.specs.Prelude.{◌≤◌};
 
 use cases::input::{read, read_part, word};

@@ -1,5 +1,7 @@
 // A watch over a product that arrives in parts and is not kept: the main header, one record header under way, at most 64 pointers, and
 // numbers. It answers after each part what the arrival judge answers for all that was fed, up to a 65th pointer record.
+#![tactic(auto)]
+
 mod pending;
 mod under_way;
 
@@ -21,7 +23,7 @@ use mphr::faults::Reached;
 
 // Where the watch is: all of it but its arrays. It goes by value.
 #[repr(C)]
-#[derive(Drop)]
+#[derive(Clone, Copy)]
 pub struct Mark {
     pub got: usize,
     pub have: usize,
@@ -39,7 +41,7 @@ pub struct Mark {
 // The mark, the records of each class that are to come and that have, the pointers met so far, the main header, and the header of the
 // record under way.
 #[repr(C)]
-#[derive(Drop)]
+#[derive(Clone, Copy)]
 pub struct Watch {
     pub mark: Mark,
     pub totals: [usize; 9],
@@ -51,21 +53,21 @@ pub struct Watch {
     pub under: [u8; 27],
 }
 
-#[derive(Drop)]
+#[derive(Clone, Copy)]
 pub struct Fed {
     pub watch: Watch,
     pub answer: Arrival,
 }
 
 // The mark after a part; the arrays are changed in place.
-#[derive(Drop)]
+#[derive(Clone, Copy)]
 pub struct Gone {
     pub mark: Mark,
     pub answer: Arrival,
 }
 
 // What the record under way comes to.
-#[derive(Drop)]
+#[derive(Clone, Copy)]
 pub enum Turned {
     Wait,
     Refuse {

@@ -1,5 +1,7 @@
 // Feeds each product of standard input to a watch, part by part, and prints what it answers after each part. A case is 4 bytes, how
 // many parts there are, and then the parts, each after the 4 bytes of its length (tools/watch-cases writes them).
+#![tactic(auto)]
+
 use cases::input::{read, read_part, word};
 use cases::print::{number, refusal, say};
 use judge::arrival::Arrival;

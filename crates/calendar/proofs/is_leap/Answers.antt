@@ -1,0 +1,13 @@
+-- `calendar::is_leap` meets its contract: each return is the definition at the tests that led to it.
+-- Assumes nothing.
+use borrow.Author.Tests.{eq-eqb, ne_eqb}
+use Rattle.calendar.proofs.is_leap.Goals as goal
+
+pub returns-then-year-ne0 : goal.returns-then-year-ne0
+returns-then-year-ne0 c = simp (ne_eqb _ _ c.if-year-ne0.true)
+
+pub returns-then-year-ne0-2 : goal.returns-then-year-ne0-2
+returns-then-year-ne0-2 c = simp (eq-eqb _ _ c.if-year-ne0.false, ne_eqb _ _ c.if-year-ne0-2.true)
+
+pub returns : goal.returns
+returns c = simp (eq-eqb _ _ c.if-year-ne0.false, eq-eqb _ _ c.if-year-ne0-2.false)

@@ -1,0 +1,18 @@
+-- `list::print_refusal` is safe: a line that was written lies in the room. Assumes nothing.
+use mathlib.Core.Path.{sym}
+use lib.Seq.{length-take-le}
+use Prim.Native.Nat.{◌≤◌}
+use lib.ListN.{length}
+use Rattle.listing.proofs.StoreLaws.{line_inside}
+use Rattle.list.proofs.print_refusal.Goals as goal
+use Rattle.list.proofs.print_refusal.Goals.{In-Bytes}
+
+inside : (c : In-Bytes) → c.in-Bytes.n ≤ length c.refusal_line.new.room
+inside c =
+    line_inside _ _ _ c.in-Bytes.is c.refusal_line.ensures
+
+pub slice_bounds-room-end : goal.slice_bounds-room-end
+slice_bounds-room-end c = inside c
+
+pub slice_bounds-print-end : goal.slice_bounds-print-end
+slice_bounds-print-end c = sym (length-take-le _ _ (inside (goal.at.slice_bounds-print-end c).In-Bytes))

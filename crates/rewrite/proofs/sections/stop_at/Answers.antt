@@ -1,0 +1,10 @@
+-- `rewrite::sections::stop_at` meets its contract. Assumes nothing.
+use mathlib.Core.Path.{refl}
+use borrow.Author.Tests.{eq-eqb, ne_eqb}
+use Rattle.rewrite.proofs.sections.stop_at.Goals as goal
+
+pub returns-then-place-eq0 : goal.returns-then-place-eq0
+returns-then-place-eq0 c = rw (eq-eqb c.args.place 0 c.if-place-eq0.true) refl
+
+pub returns : goal.returns
+returns c = rw (ne_eqb c.args.place 0 c.if-place-eq0.false) c.time_at.ensures

@@ -1,0 +1,25 @@
+-- `text::is_time` meets its contract: the width, then what read_general says. Assumes nothing.
+use Rattle.text.proofs.Laws.{time_wide, time_read, time_refused}
+use Rattle.meter.specs.General.{digits_of, said_general}
+use Prim.Native.Nat.{◌+◌}
+use mathlib.Core.Bool.{Bool}
+use mathlib.Core.Logic.{⊎_elim}
+use mathlib.Core.Path.{◌≡◌, sym, ap, ◌∙◌}
+use Rattle.text.proofs.is_time.Goals as goal
+use Rattle.text.proofs.is_time.Goals.{Joined-long}
+
+due-is : (c : Joined-long) → c.if-long.due ≡ digits_of c.args.long + 1
+due-is c = ⊎_elim (λ w. w.1 ∙ sym (ap (λ (b : Bool). digits_of b + 1) w.0.taken)) (λ w. w.1 ∙ sym (ap (λ (b : Bool). digits_of b + 1) w.0.left)) c.if-long.branch
+
+pub returns-then-width-due : goal.returns-then-width-due
+returns-then-width-due c = let a = c.args in time_wide a.long a.bytes.now a.at a.width c.if-long.due (due-is (goal.at.returns-then-width-due c).Joined-long) c.if-width-due.true
+
+pub returns-in-Time : goal.returns-in-Time
+returns-in-Time c =
+    let a = c.args in
+    time_read a.long a.bytes.now a.at a.width c.if-long.due (due-is (goal.at.returns-in-Time c).Joined-long) c.if-width-due.false c.requires c.in-Time.field-0 (sym (ap said_general c.in-Time.is) ∙ c.read_general.ensures)
+
+pub returns-in-Refused : goal.returns-in-Refused
+returns-in-Refused c =
+    let a = c.args in
+    time_refused a.long a.bytes.now a.at a.width c.if-long.due (due-is (goal.at.returns-in-Refused c).Joined-long) c.if-width-due.false c.requires c.in-Refused.field-0 (sym (ap said_general c.in-Refused.is) ∙ c.read_general.ensures)

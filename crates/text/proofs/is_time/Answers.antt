@@ -3,13 +3,12 @@ use Rattle.text.proofs.Laws.{time_wide, time_read, time_refused}
 use Rattle.meter.specs.General.{digits_of, said_general}
 use Prim.Native.Nat.{◌+◌}
 use mathlib.Core.Bool.{Bool}
-use mathlib.Core.Logic.{⊎_elim}
 use mathlib.Core.Path.{◌≡◌, sym, ap, ◌∙◌}
 use Rattle.text.proofs.is_time.Goals as goal
-use Rattle.text.proofs.is_time.Goals.{Joined-long}
+use Rattle.text.proofs.is_time.Goals.{Joined-long, then-long, else-long}
 
 due-is : (c : Joined-long) → c.if-long.due ≡ digits_of c.args.long + 1
-due-is c = ⊎_elim (λ w. w.1 ∙ sym (ap (λ (b : Bool). digits_of b + 1) w.0.taken)) (λ w. w.1 ∙ sym (ap (λ (b : Bool). digits_of b + 1) w.0.left)) c.if-long.branch
+due-is c = elim c.if-long.branch [ then-long w ↦ w.due-is ∙ sym (ap (λ (b : Bool). digits_of b + 1) w.if-long.true) | else-long w ↦ w.due-is ∙ sym (ap (λ (b : Bool). digits_of b + 1) w.if-long.false) ]
 
 pub returns-then-width-due : goal.returns-then-width-due
 returns-then-width-due c = let a = c.args in time_wide a.long a.bytes.now a.at a.width c.if-long.due (due-is (goal.at.returns-then-width-due c).Joined-long) c.if-width-due.true

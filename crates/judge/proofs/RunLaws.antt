@@ -105,7 +105,7 @@ run_on {a} {ts} {d} {n} {i} {p} {z} {most} {tl} {w} d-is small s t k f = fold {P
 
     step : (m j : ℕ) → m < most → j + z ≤ w.due → j + z + 20 ≤ d → j + z ≤ length a → LikeIs a p z j → After a n p tl w m j → After a n p tl w (m + 1) (j + z)
     step m j l h u g q x =
-        let y : Ready a d (site (n + m) j p (some_more tl p m)) ts w = record { d_is = d_is; small = small; room = omega (arith, q.liking.least); totals = s; turn = x.0; kept = x.1 } in
+        let y : Ready a d (site (n + m) j p (some_more tl p m)) ts w = record { d_is = d-is; small = small; room = omega (arith, q.liking.least); totals = s; turn = x.0; kept = x.1 } in
         let o = like_on y q (omega (arith, f, get_or-set_same tl p (get_or tl p 0 + m) 0 inside)) g u h in
         let e : n + (m + 1) ≡ n + m + 1 = omega arith in
         (rw (e, ← one_further tl p m inside) o.turn, o.kept)

@@ -86,7 +86,7 @@ pub six : (a : List ℕ) (i j : ℕ) → j ≡ i + 2 → {d m : ℕ} → d ≡ b
 unfolding be_at
 six a i j e d-is m-is =
     let f : (k m : ℕ) → j + k ≡ i + m → get_or a (j + k) 0 ≡ get_or a (i + m) 0 = λ k m h. ap (λ (n : ℕ). get_or a n 0) h in
-    omega (arith, d_is, m-is, f 0 2 (omega arith), f 1 3 (omega arith), f 2 4 (omega arith), f 3 5 (omega arith))
+    omega (arith, d-is, m-is, f 0 2 (omega arith), f 1 3 (omega arith), f 2 4 (omega arith), f 3 5 (omega arith))
 
 pub both_stand : (a : List ℕ) (at : ℕ) {x y : ℕ} → x ≡ be_at a (at + 8) 6 → y ≡ be_at a (at + 14) 6 → is_time (time_of x) ≡ true → is_time (time_of y) ≡ true → (x ≤ y) ⊎ (x ≡ 0xffff_ffff_ffff) → timed_at a at ≡ true
 unfolding timed_at

@@ -69,11 +69,11 @@ turn-requires c = let s = c.loop-v.invariant.0 in (s.inside, s.small, s.few, s.k
 
 pub returns-in-Wait : goal.returns-in-Wait
 returns-in-Wait c =
-    λ hs b k. let w = c.loop-v.inv.1 hs b k in
+    λ hs b k. let w = c.loop-v.invariant.1 hs b k in
     same_right c.wait.ensures.0 c.wait.ensures.1 (wait_right w c.fill-have.ensures c.ahead.ensures.0 c.ahead.ensures.1 refl (rightly (goal.at.returns-in-Wait c).After-turn T.Wait c.in-Wait.is hs b w))
 
 pub returns-in-Refuse : goal.returns-in-Refuse
-returns-in-Refuse c = let r = T.Refuse c.in-Refuse.number c.in-Refuse.place in λ hs b k. refuse_right (c.loop-v.inv.1 hs b k) c.fill-have.ensures c.ahead.ensures.0 c.ahead.ensures.1 (told (goal.at.returns-in-Refuse c).After-turn r c.in-Refuse.is).safe (rightly (goal.at.returns-in-Refuse c).After-turn r c.in-Refuse.is hs b (c.loop-v.inv.1 hs b k)) c.refuse.ensures.0 c.refuse.ensures.1
+returns-in-Refuse c = let r = T.Refuse c.in-Refuse.number c.in-Refuse.place in λ hs b k. refuse_right (c.loop-v.invariant.1 hs b k) c.fill-have.ensures c.ahead.ensures.0 c.ahead.ensures.1 (told (goal.at.returns-in-Refuse c).After-turn r c.in-Refuse.is).safe (rightly (goal.at.returns-in-Refuse c).After-turn r c.in-Refuse.is hs b (c.loop-v.invariant.1 hs b k)) c.refuse.ensures.0 c.refuse.ensures.1
 
 pub overflow_cast-k : goal.overflow_cast-k
 overflow_cast-k c = record { fits = omega (arith, eight c) }
@@ -100,10 +100,10 @@ pub overflow_sub-to : goal.overflow_sub-to
 overflow_sub-to c = omega (arith, (safe-pass (goal.at.overflow_sub-to c).In-Pass).0)
 
 pub run_in-run-requires : goal.run_in-run-requires
-run_in-run-requires c = ((safe-pass (goal.at.run_in-run-requires c).In-Pass).1, c.loop-v.inv.0.small, c.loop-v.inv.2)
+run_in-run-requires c = ((safe-pass (goal.at.run_in-run-requires c).In-Pass).1, c.loop-v.invariant.0.small, c.loop-v.invariant.2)
 
 pub overflow_add-passed : goal.overflow_add-passed
-overflow_add-passed c = record { fits = omega (arith, c.run_in-run.ensures.counted, c.run_in-run.ensures.inside, c.loop-v.inv.0.small) }
+overflow_add-passed c = record { fits = omega (arith, c.run_in-run.ensures.counted, c.run_in-run.ensures.inside, c.loop-v.invariant.0.small) }
 
 pub with_more-requires : goal.with_more-requires
 with_more-requires c = omega (arith, c.run_in-run.ensures.few, (safe-pass (goal.at.with_more-requires c).In-Pass).4)
@@ -115,7 +115,7 @@ pub bounds-tally-k-in-Pass : goal.bounds-tally-k-in-Pass
 bounds-tally-k-in-Pass c = omega (arith, eight (goal.at.bounds-tally-k-in-Pass c).In-Pass)
 
 pub overflow_add-v : goal.overflow_add-v
-overflow_add-v c = record { fits = omega (arith, c.run_in-run.ensures.counted, c.run_in-run.ensures.inside, (safe-pass (goal.at.overflow_add-v c).In-Pass).0, c.loop-v.inv.0.counted, c.loop-v.inv.0.small) }
+overflow_add-v c = record { fits = omega (arith, c.run_in-run.ensures.counted, c.run_in-run.ensures.inside, (safe-pass (goal.at.overflow_add-v c).In-Pass).0, c.loop-v.invariant.0.counted, c.loop-v.invariant.0.small) }
 
 pub loop-v-smaller-in-Pass : goal.loop-v-smaller-in-Pass
 loop-v-smaller-in-Pass c = let s = safe-pass (goal.at.loop-v-smaller-in-Pass c).In-Pass in omega (arith, c.run_in-run.ensures.counted, s.0, s.1)
@@ -125,14 +125,14 @@ loop-v-preserved-in-Pass c =
     let r = T.Pass c.in-Pass.to c.in-Pass.class c.in-Pass.due in
     let s = safe-pass (goal.at.loop-v-preserved-in-Pass c).In-Pass in
     let y = c.run_in-run.ensures in (
-      sane_pass c.loop-v.v c.loop-v.tally c.with_more.result (1 + c.run_in-run.result.count) c.loop-v.inv.0 (omega (arith, y.counted, s.0)) y.inside s.2 s.3,
-      λ hs b q. let w = c.loop-v.inv.1 hs b q in
+      sane_pass c.loop-v.v c.loop-v.tally c.with_more.result (1 + c.run_in-run.result.count) c.loop-v.invariant.0 (omega (arith, y.counted, s.0)) y.inside s.2 s.3,
+      λ hs b q. let w = c.loop-v.invariant.1 hs b q in
           pass_on w c.fill-have.ensures c.ahead.ensures.0 c.ahead.ensures.1 c.in-Pass.class c.with_more.ensures (omega (arith, s.4)) s.0 (rightly (goal.at.loop-v-preserved-in-Pass c).After-turn r c.in-Pass.is hs b w) (y.right b w.part),
-      c.loop-v.inv.2,
+      c.loop-v.invariant.2,
     )
 
 pub overflow_cast-starts : goal.overflow_cast-starts
-overflow_cast-starts c = record { fits = omega (arith, c.loop-v.inv.0.inside, c.loop-v.inv.0.small) }
+overflow_cast-starts c = record { fits = omega (arith, c.loop-v.invariant.0.inside, c.loop-v.invariant.0.small) }
 
 pub offset_bounds-starts-n : goal.offset_bounds-starts-n
 offset_bounds-starts-n c = let s = safe-point (goal.at.offset_bounds-starts-n c).In-Point in omega (arith, s.2)
@@ -162,21 +162,21 @@ pub overflow_add-tally : goal.overflow_add-tally
 overflow_add-tally c = let s = safe-point (goal.at.overflow_add-tally c).In-Point in record { fits = omega (arith, s.2) }
 
 pub overflow_add-v-in-Point : goal.overflow_add-v-in-Point
-overflow_add-v-in-Point c = record { fits = omega (arith, c.loop-v.inv.0.counted, c.loop-v.inv.0.inside, c.loop-v.inv.0.small) }
+overflow_add-v-in-Point c = record { fits = omega (arith, c.loop-v.invariant.0.counted, c.loop-v.invariant.0.inside, c.loop-v.invariant.0.small) }
 
 pub loop-v-smaller : goal.loop-v-smaller
 loop-v-smaller c = let s = safe-point (goal.at.loop-v-smaller c).In-Point in omega (arith, s.0, s.1)
 
 pub loop-v-preserved : goal.loop-v-preserved
-loop-v-preserved c = let r = T.Point c.in-Point.to c.in-Point.target c.in-Point.kind c.in-Point.due in let s = safe-point (goal.at.loop-v-preserved c).In-Point in (sane_point c.loop-v.v c.loop-v.tally c.loop-v.inv.0 s.0 s.1 s.2, λ hs b k. point_on (c.loop-v.inv.1 hs b k) c.fill-have.ensures c.ahead.ensures.0 c.ahead.ensures.1 c.in-Point.target c.in-Point.kind s.0 (rightly (goal.at.loop-v-preserved c).After-turn r c.in-Point.is hs b (c.loop-v.inv.1 hs b k)), c.loop-v.inv.2)
+loop-v-preserved c = let r = T.Point c.in-Point.to c.in-Point.target c.in-Point.kind c.in-Point.due in let s = safe-point (goal.at.loop-v-preserved c).In-Point in (sane_point c.loop-v.v c.loop-v.tally c.loop-v.invariant.0 s.0 s.1 s.2, λ hs b k. point_on (c.loop-v.invariant.1 hs b k) c.fill-have.ensures c.ahead.ensures.0 c.ahead.ensures.1 c.in-Point.target c.in-Point.kind s.0 (rightly (goal.at.loop-v-preserved c).After-turn r c.in-Point.is hs b (c.loop-v.invariant.1 hs b k)), c.loop-v.invariant.2)
 
 pub returns-in-Rest : goal.returns-in-Rest
 returns-in-Rest c =
     let r = T.Rest c.in-Rest.to in
     let y = (told (goal.at.returns-in-Rest c).After-turn r c.in-Rest.is).rests in
-    λ hs b k. let w = c.loop-v.inv.1 hs b k in
+    λ hs b k. let w = c.loop-v.invariant.1 hs b k in
     same_right c.wait-in-Rest.ensures.0 c.wait-in-Rest.ensures.1
-    (rest_right w c.fill-have.ensures c.ahead.ensures.0 c.ahead.ensures.1 c.loop-v-test.taken refl (rightly (goal.at.returns-in-Rest c).After-turn r c.in-Rest.is hs b w) y.0 y.1 c.until.ensures.0 c.until.ensures.1)
+    (rest_right w c.fill-have.ensures c.ahead.ensures.0 c.ahead.ensures.1 c.loop-v-test.true refl (rightly (goal.at.returns-in-Rest c).After-turn r c.in-Rest.is hs b w) y.0 y.1 c.until.ensures.0 c.until.ensures.1)
 
 pub returns : goal.returns
 returns c =

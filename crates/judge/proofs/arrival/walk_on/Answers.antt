@@ -67,22 +67,22 @@ reached c = omega (arith, (gone c).fewer, (walking (goal.at.In-Go c).At-loop-at)
 ran : (c : After-run_of-run) → After (a (goal.at.After-run_of-run c).At-loop-at) (c.loop-at.count + 1) (class (goal.at.After-run_of-run c).In-Go) (one_more c.loop-at.tally (class (goal.at.After-run_of-run c).In-Go)) (pointers (goal.at.After-run_of-run c).In-Go) c.run_of-run.result.count c.run_of-run.result.end
 ran c =
     let y = walking (goal.at.After-run_of-run c).At-loop-at in
-    run_on y.d_is y.small y.totals (gone (goal.at.After-run_of-run c).In-Go).turn (gone (goal.at.After-run_of-run c).In-Go).kept (omega (arith, reached (goal.at.After-run_of-run c).In-Go, c.lesser.ensures.0, get_or-set_same c.loop-at.tally (class (goal.at.After-run_of-run c).In-Go) (n (goal.at.After-run_of-run c).In-Go) 0 (below (goal.at.After-run_of-run c).In-Go))) (c.run_of-run.ensures c.loop-at.inv.2)
+    run_on y.d_is y.small y.totals (gone (goal.at.After-run_of-run c).In-Go).turn (gone (goal.at.After-run_of-run c).In-Go).kept (omega (arith, reached (goal.at.After-run_of-run c).In-Go, c.lesser.ensures.0, get_or-set_same c.loop-at.tally (class (goal.at.After-run_of-run c).In-Go) (n (goal.at.After-run_of-run c).In-Go) 0 (below (goal.at.After-run_of-run c).In-Go))) (c.run_of-run.ensures c.loop-at.invariant.2)
 
 counted : (c : After-run_of-run) → (to (goal.at.After-run_of-run c).In-Go + c.run_of-run.result.count ≤ c.run_of-run.result.end) × (c.run_of-run.result.end ≤ d (goal.at.After-run_of-run c).At-loop-at) × (n (goal.at.After-run_of-run c).In-Go + c.run_of-run.result.count ≤ get_or (ts (goal.at.After-run_of-run c).At-loop-at) (class (goal.at.After-run_of-run c).In-Go) 0)
 counted c =
-    let r = c.run_of-run.ensures c.loop-at.inv.2 in
+    let r = c.run_of-run.ensures c.loop-at.invariant.2 in
     let l = run_le r in
     (omega (arith, l.0), run_within r (omega (arith, (gone (goal.at.After-run_of-run c).In-Go).turn.inside, walking (goal.at.After-run_of-run c).At-loop-at)), omega (arith, l.1, c.lesser.ensures.0, reached (goal.at.After-run_of-run c).In-Go))
 
 evenly : (f : After-run_of-run) → Even (a (goal.at.After-run_of-run f).At-loop-at) (to (goal.at.After-run_of-run f).In-Go - f.loop-at.at) f.loop-at.at f.run_of-run.result.end
 evenly f =
     let g = gone (goal.at.After-run_of-run f).In-Go in
-    turn_even (omega (arith, g.to_is)) (omega (arith, g.further)) (run_even (f.run_of-run.ensures f.loop-at.inv.2))
+    turn_even (omega (arith, g.to_is)) (omega (arith, g.further)) (run_even (f.run_of-run.ensures f.loop-at.invariant.2))
 
 grows : (c : After-noted-notes) → NotesAre (a (goal.at.After-noted-notes c).At-loop-at) c.noted-notes.result
 grows c =
-    c.noted-notes.ensures.even (a (goal.at.After-noted-notes c).At-loop-at) c.loop-at.inv.5 (evenly (goal.at.After-noted-notes c).After-run_of-run)
+    c.noted-notes.ensures.even (a (goal.at.After-noted-notes c).At-loop-at) c.loop-at.invariant.5 (evenly (goal.at.After-noted-notes c).After-run_of-run)
 
 -- no record yet
 none_yet : {a : List ℕ} {i : ℕ} {r : Notes} → r ≡ no_notes i → NotesAre a r
@@ -116,17 +116,17 @@ turn-requires c =
 
 pub returns-in-Stop : goal.returns-in-Stop
 returns-in-Stop c =
-    let i = c.loop-at.inv in
+    let i = c.loop-at.invariant in
     record { said = told (goal.at.returns-in-Stop c).After-turn (Stop c.in-Stop.answer) c.in-Stop.is; even = i.5.longest; meets = i.7 }
 
 pub overflow_cast-k : goal.overflow_cast-k
-overflow_cast-k c = record { fits = omega (arith, (gone (goal.at.overflow_cast-k c).In-Go).eight) }
+overflow_cast-k c = record { fits = omega (arith, (told (goal.at.overflow_cast-k c).After-turn (Go c.in-Go.to c.in-Go.class c.in-Go.pointers) c.in-Go.is).eight) }
 
 pub offset_bounds-tally-k : goal.offset_bounds-tally-k
-offset_bounds-tally-k c = omega (arith, (gone (goal.at.offset_bounds-tally-k c).In-Go).eight)
+offset_bounds-tally-k c = omega (arith, (told (goal.at.offset_bounds-tally-k c).After-turn (Go c.in-Go.to c.in-Go.class c.in-Go.pointers) c.in-Go.is).eight)
 
 pub bounds-tally-k : goal.bounds-tally-k
-bounds-tally-k c = omega (arith, (gone (goal.at.bounds-tally-k c).In-Go).eight)
+bounds-tally-k c = omega (arith, (told (goal.at.bounds-tally-k c).After-turn (Go c.in-Go.to c.in-Go.class c.in-Go.pointers) c.in-Go.is).eight)
 
 pub overflow_add-n : goal.overflow_add-n
 overflow_add-n c = record { fits = omega (arith, (gone c).fewer, (walking (goal.at.overflow_add-n c).At-loop-at).totals.small (class c) (gone c).eight) }
@@ -156,7 +156,7 @@ pub overflow_add-count : goal.overflow_add-count
 overflow_add-count c = record { fits = omega (arith, counted (goal.at.overflow_add-count c).After-run_of-run, (walking (goal.at.overflow_add-count c).At-loop-at).small) }
 
 pub overflow_add-count-in-Go : goal.overflow_add-count-in-Go
-overflow_add-count-in-Go c = let i = c.loop-at.inv.0 in record { fits = omega (arith, counted (goal.at.overflow_add-count-in-Go c).After-run_of-run, (gone (goal.at.overflow_add-count-in-Go c).In-Go).further, i.counted, (walking (goal.at.overflow_add-count-in-Go c).At-loop-at).small) }
+overflow_add-count-in-Go c = let i = c.loop-at.invariant.0 in record { fits = omega (arith, counted (goal.at.overflow_add-count-in-Go c).After-run_of-run, (gone (goal.at.overflow_add-count-in-Go c).In-Go).further, i.counted, (walking (goal.at.overflow_add-count-in-Go c).At-loop-at).small) }
 
 pub overflow_sub-to-in-Go : goal.overflow_sub-to-in-Go
 overflow_sub-to-in-Go c = omega (arith, (gone (goal.at.overflow_sub-to-in-Go c).In-Go).further)
@@ -165,23 +165,23 @@ pub overflow_add-run : goal.overflow_add-run
 overflow_add-run c = record { fits = omega (arith, counted (goal.at.overflow_add-run c).After-run_of-run, (walking (goal.at.overflow_add-run c).At-loop-at).small) }
 
 pub noted-notes-requires : goal.noted-notes-requires
-noted-notes-requires c = let i = c.loop-at.inv in omega (arith, i.6, counted (goal.at.noted-notes-requires c).After-run_of-run, i.0.inside, walking (goal.at.noted-notes-requires c).At-loop-at)
+noted-notes-requires c = let i = c.loop-at.invariant in omega (arith, i.6, counted (goal.at.noted-notes-requires c).After-run_of-run, i.0.inside, walking (goal.at.noted-notes-requires c).At-loop-at)
 
 pub overflow_sub-to-in-Go-2 : goal.overflow_sub-to-in-Go-2
 overflow_sub-to-in-Go-2 c = omega (arith, (gone (goal.at.overflow_sub-to-in-Go-2 c).In-Go).further)
 
 pub met_on-met-requires : goal.met_on-met-requires
 met_on-met-requires c =
-    (c.loop-at.inv.7, record { even = evenly (goal.at.met_on-met-requires c).After-run_of-run; least = omega (arith, (gone (goal.at.met_on-met-requires c).In-Go).further); come = (ran (goal.at.met_on-met-requires c).After-run_of-run).0.come })
+    (c.loop-at.invariant.7, record { even = evenly (goal.at.met_on-met-requires c).After-run_of-run; least = omega (arith, (gone (goal.at.met_on-met-requires c).In-Go).further); come = (ran (goal.at.met_on-met-requires c).After-run_of-run).0.come })
 
 pub loop-at-smaller : goal.loop-at-smaller
-loop-at-smaller c = omega (arith, (counted (goal.at.loop-at-smaller c).After-run_of-run).0, (gone (goal.at.loop-at-smaller c).In-Go).further, c.loop-at-test.taken)
+loop-at-smaller c = omega (arith, (counted (goal.at.loop-at-smaller c).After-run_of-run).0, (gone (goal.at.loop-at-smaller c).In-Go).further, c.loop-at-test.true)
 
 pub loop-at-preserved : goal.loop-at-preserved
 loop-at-preserved c =
     let r = c.run_of-run.result in
     let i : c.loop-at.count + (1 + r.count) ≡ c.loop-at.count + 1 + r.count = omega arith in
-    let v = c.loop-at.inv in (
+    let v = c.loop-at.invariant in (
       rw (i, ← run_tally c.loop-at.tally (class (goal.at.loop-at-preserved c).In-Go) r.count (below (goal.at.loop-at-preserved c).In-Go)) (ran (goal.at.loop-at-preserved c).After-run_of-run).0,
       (ran (goal.at.loop-at-preserved c).After-run_of-run).1,
       v.2,

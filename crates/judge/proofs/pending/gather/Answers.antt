@@ -60,19 +60,19 @@ loop-q-preserved-in-Miss c =
     (i.0, i.1, walk_on i.2 c.loop-q-test.true 27 (wide (goal.at.loop-q-preserved-in-Miss c).After-look_at (missed c).ipr), got_pass i.2 c.loop-q-test.true i.3 27 (wide (goal.at.loop-q-preserved-in-Miss c).After-look_at (missed c).ipr) (missed c).not_met)
 
 pub shape_of-held-in-Stop : goal.shape_of-held-in-Stop
-shape_of-held-in-Stop c = c.loop-q.inv.1
+shape_of-held-in-Stop c = c.loop-q.invariant.1
 
 pub returns-in-Stop : goal.returns-in-Stop
-returns-in-Stop c = let i = c.loop-q.inv in record { same = i.1; all = λ h. absurd (omega (arith, i.1)) }
+returns-in-Stop c = let i = c.loop-q.invariant in record { same = i.1; all = λ h. absurd (omega (arith, i.1)) }
 
 pub entry_at-requires : goal.entry_at-requires
 entry_at-requires c = omega (arith, room (goal.at.entry_at-requires c).After-look_at, wide (goal.at.entry_at-requires c).After-look_at (met (goal.at.entry_at-requires c).In-Found).ipr)
 
 pub put-n-requires : goal.put-n-requires
-put-n-requires c = c.loop-q.inv.0
+put-n-requires c = c.loop-q.invariant.0
 
 kept : (c : After-put-n) → length c.put-n.new.held ≡ length c.args.held.now
-kept c = c.put-n.ensures.same ∙ c.loop-q.inv.1
+kept c = c.put-n.ensures.same ∙ c.loop-q.invariant.1
 
 pub shape_of-held-then-held-n : goal.shape_of-held-then-held-n
 shape_of-held-then-held-n c = kept (goal.at.shape_of-held-then-held-n c).After-put-n
@@ -84,11 +84,11 @@ pub overflow_add-q-in-Found : goal.overflow_add-q-in-Found
 overflow_add-q-in-Found c = record { fits = omega (arith, room (goal.at.overflow_add-q-in-Found c).After-look_at, wide (goal.at.overflow_add-q-in-Found c).After-look_at (met (goal.at.overflow_add-q-in-Found c).In-Found).ipr) }
 
 pub loop-q-smaller : goal.loop-q-smaller
-loop-q-smaller c = less c.loop-q-test.taken (omega arith)
+loop-q-smaller c = less c.loop-q-test.true (omega arith)
 
 pub loop-q-preserved : goal.loop-q-preserved
 loop-q-preserved c =
-    let i = c.loop-q.inv in
+    let i = c.loop-q.invariant in
     let t = c.loop-q-test.true in
     let z = wide (goal.at.loop-q-preserved c).After-look_at (met (goal.at.loop-q-preserved c).In-Found).ipr in
     (c.if-held-n.false, kept (goal.at.loop-q-preserved c).After-put-n, walk_on i.2 t 27 z, got_put i.2 t i.3 27 z c.entry_at.ensures c.put-n.ensures (omega (arith, c.if-held-n.false, c.put-n.ensures.same)))

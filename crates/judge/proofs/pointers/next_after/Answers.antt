@@ -1,6 +1,6 @@
 -- `judge::pointers::next_after` meets its contract: its tests are the parts of `NextIs`; the second look is one, since the first is passed.
 -- Assumes nothing.
-use Rattle.std.proofs.Common.{ℕ, sym, refl, ◌∙◌, arith}
+use Rattle.std.proofs.Common.{◌≡◌, ℕ, sym, refl, ◌∙◌, arith}
 use borrow.Author.Tests.{not-false}
 use Rattle.judge.proofs.WayLaws.{leads_le}
 use Rattle.judge.proofs.ScanLaws.{looking_next}

@@ -32,18 +32,18 @@ pub bounds-s-at-in-loop-at-3 : goal.bounds-s-at-in-loop-at-3
 bounds-s-at-in-loop-at-3 c = omega (arith, come (goal.at.bounds-s-at-in-loop-at-3 c).In-loop-at)
 
 pub returns-then-not-is_let : goal.returns-then-not-is_let
-returns-then-not-is_let c = c.loop-at.inv
+returns-then-not-is_let c = c.loop-at.invariant
 
 pub overflow_add-at-in-loop-at-3 : goal.overflow_add-at-in-loop-at-3
-overflow_add-at-in-loop-at-3 c = omega (arith, one_room c.loop-at.inv.left c.loop-at-test.taken)
+overflow_add-at-in-loop-at-3 c = omega (arith, one_room c.loop-at.invariant.left c.loop-at-test.true)
 
 pub loop-at-smaller : goal.loop-at-smaller
-loop-at-smaller c = omega (arith, c.loop-at.inv.left.least, c.loop-at-test.taken)
+loop-at-smaller c = omega (arith, c.loop-at.invariant.left.least, c.loop-at-test.true)
 
 pub loop-at-preserved : goal.loop-at-preserved
 loop-at-preserved c =
-    let v = c.loop-at.inv in
-    passed_joined v (passed_one v.left c.loop-at-test.taken (by_line c.args.profile.now _ _ _ _ c.args.i c.requires.1 (sym c.is_let.ensures ∙ not-false c.is_let.result c.if-not-is_let.false-raw)))
+    let v = c.loop-at.invariant in
+    passed_joined v (passed_one v.left c.loop-at-test.true (by_line c.args.profile.now _ _ _ _ c.args.i c.requires.1 (sym c.is_let.ensures ∙ not-false c.is_let.result c.if-not-is_let.false-raw)))
 
 pub loop-at-init : goal.loop-at-init
 loop-at-init c = passed_none c.requires.0

@@ -60,7 +60,7 @@ loop-q-preserved-in-Miss c =
     (i.0, walk_on i.1 c.loop-q-test.true 27 (wide (goal.at.loop-q-preserved-in-Miss c).After-look_at (missed c).ipr))
 
 pub shape_of-parts-in-Stop : goal.shape_of-parts-in-Stop
-shape_of-parts-in-Stop c = c.loop-q.inv.0
+shape_of-parts-in-Stop c = c.loop-q.invariant.0
 
 pub overflow_add-q-in-Found : goal.overflow_add-q-in-Found
 overflow_add-q-in-Found c = record { fits = omega (arith, room (goal.at.overflow_add-q-in-Found c).After-look_at) }

@@ -65,18 +65,18 @@ is_recorded-requires c = let p = room (goal.at.is_recorded-requires c).In-loop-k
 pub returns-then-not-is_recorded : goal.returns-then-not-is_recorded
 returns-then-not-is_recorded c =
     let p = c.requires in
-    ends_first p.fit p.counted c.loop-k.inv c.loop-k-test.taken _ (far (goal.at.returns-then-not-is_recorded c).After-number_at) refl c.step_in-fed.ensures c.is_recorded.ensures (not-true c.is_recorded.result c.if-not-is_recorded.true-raw)
+    ends_first p.fit p.counted c.loop-k.invariant c.loop-k-test.true _ (far (goal.at.returns-then-not-is_recorded c).After-number_at) refl c.step_in-fed.ensures c.is_recorded.ensures (not-true c.is_recorded.result c.if-not-is_recorded.true-raw)
 
 pub overflow_add-k-in-loop-k : goal.overflow_add-k-in-loop-k
 overflow_add-k-in-loop-k c = let p = room (goal.at.overflow_add-k-in-loop-k c).In-loop-k in omega arith
 
 pub loop-k-smaller : goal.loop-k-smaller
-loop-k-smaller c = let t = c.loop-k-test.taken in omega arith
+loop-k-smaller c = let t = c.loop-k-test.true in omega arith
 
 pub loop-k-preserved : goal.loop-k-preserved
 loop-k-preserved c =
     let p = c.requires in
-    goes_on p.fit p.counted c.loop-k.inv c.loop-k-test.taken _ (far (goal.at.loop-k-preserved c).After-number_at) refl c.step_in-fed.ensures c.is_recorded.ensures (not-false c.is_recorded.result c.if-not-is_recorded.false-raw)
+    goes_on p.fit p.counted c.loop-k.invariant c.loop-k-test.true _ (far (goal.at.loop-k-preserved c).After-number_at) refl c.step_in-fed.ensures c.is_recorded.ensures (not-false c.is_recorded.result c.if-not-is_recorded.false-raw)
 
 pub returns : goal.returns
 returns c =

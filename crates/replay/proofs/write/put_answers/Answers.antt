@@ -26,7 +26,7 @@ within c =
 room : (c : After-step_in-fed) →
     (20 + 4 * length c.args.lengths.now + 12 * c.loop-k.k ≤ length c.loop-k.room) × (length c.loop-k.room < 2 ^ 64)
 room c =
-    let long = c.loop-k.inv.2.kept.long in (
+    let long = c.loop-k.invariant.2.kept.long in (
       omega (arith, c.requires.enough, long, c.loop-k-test.true),
       omega (arith, long, c.well_formed.1.1.0.0),
     )
@@ -58,20 +58,20 @@ overflow_add-lengths-in-loop-k c = let p = room (goal.at.overflow_add-lengths-in
 pub put_answer-requires : goal.put_answer-requires
 put_answer-requires c =
     let p = room (goal.at.put_answer-requires c).After-step_in-fed in
-    (omega arith, fits_it c.loop-k.inv.1 _ (far (goal.at.put_answer-requires c).After-wide) refl c.step_in-fed.ensures)
+    (omega arith, fits_it c.loop-k.invariant.1 _ (far (goal.at.put_answer-requires c).After-wide) refl c.step_in-fed.ensures)
 
 pub overflow_add-k : goal.overflow_add-k
 overflow_add-k c = let p = room (goal.at.overflow_add-k c).After-step_in-fed in omega arith
 
 pub loop-k-smaller : goal.loop-k-smaller
-loop-k-smaller c = let t = c.loop-k-test.taken in omega arith
+loop-k-smaller c = let t = c.loop-k-test.true in omega arith
 
 pub loop-k-preserved : goal.loop-k-preserved
 loop-k-preserved c =
-    let t = c.loop-k-test.taken in (
+    let t = c.loop-k-test.true in (
       omega arith,
-      one_before c.loop-k.inv.1 _ (far (goal.at.loop-k-preserved c).After-wide) refl c.step_in-fed.ensures,
-      answer_put c.loop-k.inv.2 c.put_answer.ensures (answered c.loop-k.inv.1 _ (far (goal.at.loop-k-preserved c).After-wide) refl c.step_in-fed.ensures),
+      one_before c.loop-k.invariant.1 _ (far (goal.at.loop-k-preserved c).After-wide) refl c.step_in-fed.ensures,
+      answer_put c.loop-k.invariant.2 c.put_answer.ensures (answered c.loop-k.invariant.1 _ (far (goal.at.loop-k-preserved c).After-wide) refl c.step_in-fed.ensures),
     )
 
 pub shape_of-room : goal.shape_of-room

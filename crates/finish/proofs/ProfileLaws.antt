@@ -59,7 +59,7 @@ module _ {p : List (List ℕ)} {a l : List ℕ} {i : ℕ} (k : Asking p a l i) w
 pub meeting_ahead : {p : List (List ℕ)} {a l : List ℕ} {i j : ℕ} → Ahead a i l → Meeting p a i j → Asking p a l j
 meeting_ahead {p} w over = asked_first p w
 meeting_ahead {p} {a} {j = j} (none h) (further e m) = record { left = record { starts = []; ahead = none {i = j} (omega (arith, meeting_le m)) }; same = refl }
-meeting_ahead {p} {a} {i = i} (more {l = l} r n) (further e m) = let k = meeting_ahead n m in record { left = k.left; same = passes_on p a i l e ∙ k.same }
+meeting_ahead {p} {a} {i = i} (more {l = l} r n) (further e m) = let k = meeting_ahead {l = l} n m in record { left = k.left; same = passes_on p a i l e ∙ k.same }
 
 pub asked_leap : {p : List (List ℕ)} {a l : List ℕ} {i j : ℕ} → Asking p a l i → Meeting p a i j → Asking p a l j
 asked_leap k m = let q = meeting_ahead k.left.ahead m in record { left = q.left; same = k.same ∙ q.same }

@@ -55,11 +55,11 @@ pub overflow_add-end : goal.overflow_add-end
 overflow_add-end c = record { fits = omega (arith, (record-here (goal.at.overflow_add-end c).In-loop-end).most, sized (goal.at.overflow_add-end c).Else-size_at-size, (known (goal.at.overflow_add-end c).At-loop-end).asked.small) }
 
 pub loop-end-smaller : goal.loop-end-smaller
-loop-end-smaller c = less c.loop-end-test.taken (omega (arith, (record-here (goal.at.loop-end-smaller c).In-loop-end).least, sized (goal.at.loop-end-smaller c).Else-size_at-size))
+loop-end-smaller c = less c.loop-end-test.true (omega (arith, (record-here (goal.at.loop-end-smaller c).In-loop-end).least, sized (goal.at.loop-end-smaller c).Else-size_at-size))
 
 pub loop-end-preserved : goal.loop-end-preserved
 loop-end-preserved c =
-    let v = c.loop-end.inv in
+    let v = c.loop-end.invariant in
     record {
       kept = λ rows₀ l f. filling_next (v.kept rows₀ l f) (inside (goal.at.loop-end-preserved c).In-loop-end) (sized (goal.at.loop-end-preserved c).Else-size_at-size) c.put_row.ensures;
       from = omega (arith, v.from);

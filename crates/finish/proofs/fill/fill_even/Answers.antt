@@ -37,15 +37,15 @@ pub overflow_add-i : goal.overflow_add-i
 overflow_add-i c = record { fits = omega (arith, (here (goal.at.overflow_add-i c).In-loop-i).most, sized (goal.at.overflow_add-i c).In-loop-i, (known (goal.at.overflow_add-i c).At-loop-i).asked.small) }
 
 pub loop-i-smaller : goal.loop-i-smaller
-loop-i-smaller c = less c.loop-i-test.taken (omega (arith, (here (goal.at.loop-i-smaller c).In-loop-i).least, sized (goal.at.loop-i-smaller c).In-loop-i))
+loop-i-smaller c = less c.loop-i-test.true (omega (arith, (here (goal.at.loop-i-smaller c).In-loop-i).least, sized (goal.at.loop-i-smaller c).In-loop-i))
 
 pub loop-i-preserved : goal.loop-i-preserved
 loop-i-preserved c =
-    let v = c.loop-i.inv in
+    let v = c.loop-i.invariant in
     record {
       kept = λ rows₀ l f. filling_next (v.kept rows₀ l f) (inside (goal.at.loop-i-preserved c).In-loop-i) (sized (goal.at.loop-i-preserved c).In-loop-i) c.put_row.ensures;
       stop = v.stop;
-      even = (even_step v.even (omega (arith, c.loop-i-test.taken, v.within))).1;
+      even = (even_step v.even (omega (arith, c.loop-i-test.true, v.within))).1;
       within = v.within;
     }
 

@@ -35,7 +35,7 @@ bounds-s-at-in-loop-at-3 c = omega (arith, come (goal.at.bounds-s-at-in-loop-at-
 
 pub returns-then-not-allows : goal.returns-then-not-allows
 returns-then-not-allows c =
-    λ l w. sym (asked_stop (c.loop-at.inv l w) c.loop-at-test.taken (sym c.allows.ensures ∙ not-true c.allows.result c.if-not-allows.true-raw))
+    λ l w. sym (asked_stop (c.loop-at.invariant l w) c.loop-at-test.true (sym c.allows.ensures ∙ not-true c.allows.result c.if-not-allows.true-raw))
 
 -- the size of the record
 size_is : (c : After-size_at) → c.size_at.result ≡ size_at c.args.s.now c.loop-at.at
@@ -46,13 +46,13 @@ overflow_add-at-in-loop-at-3 c = omega (arith, (here (goal.at.overflow_add-at-in
 
 again : (c : After-leap-at) (l : List ℕ) → Ahead c.args.s.now 0 l → Asking c.args.profile.now c.args.s.now l c.leap-at.result × (c.loop-at.at + c.size_at.result ≤ c.leap-at.result)
 again c l w =
-    let n = asked_next (c.loop-at.inv l w) c.loop-at-test.taken (sym c.allows.ensures ∙ not-false c.allows.result c.if-not-allows.false-raw) in
+    let n = asked_next (c.loop-at.invariant l w) c.loop-at-test.true (sym c.allows.ensures ∙ not-false c.allows.result c.if-not-allows.false-raw) in
     leaps (subst (λ (z : ℕ). Asking c.args.profile.now c.args.s.now l (c.loop-at.at + z)) (sym (size_is (goal.at.After-leap-at c).After-size_at)) n) c.requires.1 c.leap-at.ensures
 
 pub loop-at-smaller : goal.loop-at-smaller
 loop-at-smaller c =
     let g = c.requires.0 in
-    omega (arith, (again c g.starts g.ahead).1, size_is (goal.at.loop-at-smaller c).After-size_at, (here (goal.at.loop-at-smaller c).In-loop-at).least, c.loop-at-test.taken)
+    omega (arith, (again c g.starts g.ahead).1, size_is (goal.at.loop-at-smaller c).After-size_at, (here (goal.at.loop-at-smaller c).In-loop-at).least, c.loop-at-test.true)
 
 pub loop-at-preserved : goal.loop-at-preserved
 loop-at-preserved c = λ l w. (again c l w).0

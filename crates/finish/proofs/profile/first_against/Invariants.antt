@@ -7,7 +7,7 @@ use Rattle.finish.proofs.ProfileLaws.{Asking}
 use Rattle.finish.proofs.profile.first_against.Given as goal
 
 abbrev pub invariant-loop-at : goal.invariant-loop-at
-invariant-loop-at l = (l : List ℕ) → Ahead l.s 0 l → Asking l.profile l.s l l.at
+invariant-loop-at l = (list : List ℕ) → Ahead l.s 0 list → Asking l.profile l.s list l.at
 
 abbrev pub decreases-loop-at : goal.decreases-loop-at
 decreases-loop-at l = length l.s - l.at

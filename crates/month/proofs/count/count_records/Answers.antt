@@ -57,7 +57,7 @@ overflow_add-at c =
 pub loop-at-smaller : goal.loop-at-smaller
 loop-at-smaller c =
     let h = here (goal.at.loop-at-smaller c).In-loop-at in
-    less c.loop-at-test.taken (omega (arith, sized (goal.at.loop-at-smaller c).After-size_in-size, h.here.least))
+    less c.loop-at-test.true (omega (arith, sized (goal.at.loop-at-smaller c).After-size_in-size, h.here.least))
 
 pub loop-at-preserved : goal.loop-at-preserved
 loop-at-preserved c =

@@ -255,7 +255,7 @@ onward : {a l : List ℕ} {x y : Site} → Leads a x y → length x.tally ≡ 9 
 onward {l = l} here n r = record { list = l; records = r; others = λ t h. inr h; tally = λ c h. refl }
 onward (on s m) n (none e) = absurd (omega (arith, s.room))
 onward {a} {x = x} {y = y} (on s m) n (more {l = l} r _ ts) =
-    let k = onward m (simp length-set n) ts in
+    let k = onward {l = l} m (simp length-set n) ts in
     record {
       list = k.list;
       records = k.records;

@@ -17,8 +17,8 @@ turn_finished a rows v r rows' f (unfit x) = (go f, refl)
     go : {n p : ℕ} → Unfit a n p → Refuses a (length rows) n p
     go (F.faulty g) = F.faulty g
     go (F.short c h) = F.short c h
-turn_finished a rows v r rows' (k, o) (little x e d h) = (rw (e, d) (F.no_room k o h), refl)
-turn_finished a rows v r rows' (k, o) (listed f) = record { complete = k; filled = f }
+turn_finished a rows v r rows' f (little x e d h) = (rw (e, d) (F.no_room f.0 f.1 h), refl)
+turn_finished a rows v r rows' k (listed f) = record { complete = k.0; filled = f }
 
 -- ---- and what the one promised the two say in turn
 pub record Turns (a : List ℕ) (rows : List (List ℕ)) (r : Finished) (rows' : List (List ℕ)) : Type 0 where

@@ -1,6 +1,6 @@
 -- The closed forms that the code computes. A reader need not believe them: each is proved equal to what specs/Calendar.antt says.
 -- Assumes nothing.
-use Rattle.std.specs.Prelude.{ℕ, ◌+◌, ◌-◌, ◌*◌, ◌/◌, ◌%◌, Bool, true, false, cond, ◌||◌, eqb, ltb}
+use Rattle.std.specs.Prelude.{ℕ, ◌+◌, ◌-◌, ◌*◌, ◌/◌, ◌%◌, cond, ◌||◌, eqb, ltb}
 
 -- the day of a year, counted from 0, if each February had 29 days
 abbrev pub layout_of : ℕ → ℕ → ℕ

@@ -1,7 +1,7 @@
 -- The ways out of the module `general`, at the code's own names: each local is a variable with the equation that its call ensures, and
 -- the tests that led there decide the definition's conditions. By rewriting, or by cases of two tests. Assumes nothing.
-use mathlib.Core.Path.{◌≡◌, refl, ◌∙◌}
-use mathlib.Core.Bool.{Bool, true, false, cond, ◌&&◌, ◌||◌}
+use mathlib.Core.Path.{◌≡◌}
+use mathlib.Core.Bool.{Bool, true, false, cond, ◌&&◌}
 use mathlib.Core.List.{List}
 use Prim.Native.Nat.{ℕ, ◌+◌, ◌-◌, ◌^◌, ◌≤◌, ◌<◌}
 use native.Mathlib.Nat.{pow-le-pow_right}
@@ -11,7 +11,7 @@ use lib.Dec.{lit<, eqb, leb}
 use lib.ListN.{length, set}
 use Rattle.calendar.specs.Said.{Said, answer, refusal, refused}
 use Rattle.calendar.specs.declared.Refusal.{Refusal}
-use Rattle.calendar.specs.Calendar.{date, is_date, days_to, has_day, day_number_of}
+use Rattle.calendar.specs.Calendar.{is_date, days_to, has_day, day_number_of}
 use Rattle.meter.specs.Lent.{inside, writes, wrote}
 use Rattle.meter.specs.declared.time.Time.{Time}
 use Rattle.meter.specs.declared.time.Time.TheVariants as T

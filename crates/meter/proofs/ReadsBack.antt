@@ -1,20 +1,19 @@
 -- READING BACK: what each writer of integers, short times and scaled numbers writes reads back as what was written, and what was read is
 -- written back as the bytes that it was read from. By the two round trips of IntegerLaws, over the width. Assumes nothing.
-use mathlib.Core.Path.{◌≡◌, refl, sym, ap, ◌∙◌, subst}
+use mathlib.Core.Path.{◌≡◌, refl, sym, ap, ◌∙◌}
 use mathlib.Core.Bool.{Bool, true, false, cond, not, ◌&&◌, ◌||◌, true≢false}
 use mathlib.Core.List.{List}
-use mathlib.Core.Logic.{◌⊎◌, inl, inr}
-use Prim.Native.Nat.{ℕ, zero, suc, ◌+◌, ◌-◌, ◌*◌, ◌/◌, ◌^◌, ◌%◌, ◌≤◌, ◌<◌}
+use Prim.Native.Nat.{ℕ, suc, ◌+◌, ◌-◌, ◌/◌, ◌^◌, ◌%◌, ◌≤◌, ◌<◌}
 use native.Mathlib.Nat.{mod-eq_of_lt}
 use native.Mathlib.Decide.{ℕ_discrete}
 use native.Mathlib.Omega.{arith}
-use borrow.Author.Tests.{le-leb, leb-true, ltb-true, eqb-true, eqb-false, not-true, not-false}
-use lib.Dec.{eqb, leb, ltb}
-use lib.IntN.{ℤ, pos, negsuc, nat_abs}
+use borrow.Author.Tests.{le-leb, leb-true, eqb-true, not-true}
+use lib.Dec.{eqb}
+use lib.IntN.{ℤ, pos, negsuc}
 use lib.ListN.{length, get_or}
 use lib.Seq.{get_or-set_same}
 use lib.Signed.{mag, lt_z, le_z}
-use Rattle.calendar.specs.Said.{Said, answer, refusal}
+use Rattle.calendar.specs.Said.{answer, refusal}
 use Rattle.meter.specs.Lent.{inside, reads}
 use Rattle.meter.specs.Integer.{be_at, stored, twos, word_of, is_width, top_of, half_of, fits_unsigned, fits_signed, unsigned_at, signed_at}
 use Rattle.meter.specs.Time.{is_time, bits_of, time_of, time_at, time_read_at}
@@ -23,7 +22,7 @@ use Rattle.meter.specs.declared.time.Time.{Time}
 use Rattle.meter.specs.declared.time.Time.TheVariants as T
 use Rattle.meter.specs.declared.scaled.Scaled.{Scaled}
 use Rattle.meter.specs.declared.scaled.Scaled.TheVariants as S
-use Rattle.meter.proofs.IntegerLaws.{Wide, wide_of, back, again, stored_length, stored_before, stored_after, be_at_beside, be_at_lt, word_cut, word_twos, unsigned_fits, signed_fits}
+use Rattle.meter.proofs.IntegerLaws.{Wide, wide_of, back, again, stored_length, stored_before, be_at_lt, word_cut, word_twos, unsigned_fits, signed_fits}
 use Rattle.meter.proofs.ScaledLaws.{same_self, read_none, read_some}
 
 -- what a reader that answers was given

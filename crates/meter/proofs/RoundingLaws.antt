@@ -2,15 +2,15 @@
 -- for: twice the distance is at most the divisor, at a tie the larger is taken, and no other number does that; a product is its own nearest. By
 -- the quotient's bounds. Assumes nothing.
 use mathlib.Core.Path.{◌≡◌, refl, sym, ap, ◌∙◌}
-use mathlib.Core.Bool.{Bool, true, false, true≢false}
+use mathlib.Core.Bool.{true, false, true≢false}
 use Prim.Native.Nat.{ℕ, zero, suc, ◌+◌, ◌-◌, ◌*◌, ◌/◌, ◌%◌, ◌^◌, ◌≤◌, ◌<◌}
 use native.Mathlib.Nat.{mul-one, one-mul, mul_assoc, mul_left_comm, add-mul, mod-lt, div-add-mod', div-eq_of_lt-le, mul-div-mul_right, one-le-pow, pow-le-pow_right, div-le_of_le-mul, mul-le-mul_right, mul-add, mul-pos}
 use native.Mathlib.Omega.{arith}
 use borrow.Author.Tests.{lt-ltb, le-ltb, ltb-true}
-use lib.Dec.{lit<, ltb}
+use lib.Dec.{lit<}
 use lib.IntN.{ℤ, pos, negsuc, neg_ℤ, nat_abs, ◌*ℤ◌}
 use lib.Pow.{pow-add}
-use lib.Signed.{lt_z, mag}
+use lib.Signed.{lt_z}
 use Rattle.calendar.specs.Said.{answer, refusal}
 use Rattle.meter.specs.Scaled.{divided, multiplied, stands_for}
 use Rattle.meter.specs.Rounding.{near, with_sign, whole64, signed_of, nearest_to, IsNearest}

@@ -1,24 +1,23 @@
 -- The laws of scaled numbers: what the code's tests on words and sizes come to, and that what is written reads back, both ways.
 -- By cases on the sign, over the width. Assumes nothing.
 use mathlib.Core.Path.{◌≡◌, refl, sym, ap, ◌∙◌, subst}
-use mathlib.Core.Bool.{Bool, true, false, cond, not, ◌&&◌, ◌||◌, true≢false}
+use mathlib.Core.Bool.{Bool, true, false, cond, not, ◌&&◌, true≢false}
 use mathlib.Core.List.{List}
-use Prim.Native.Nat.{ℕ, zero, suc, ◌+◌, ◌-◌, ◌*◌, ◌^◌, ◌%◌, ◌≤◌, ◌<◌}
+use Prim.Native.Nat.{ℕ, suc, ◌+◌, ◌-◌, ◌^◌, ◌≤◌, ◌<◌}
 use native.Mathlib.Omega.{arith}
-use borrow.Author.Tests.{lt-ltb, le-ltb, ltb-true, ltb-false, leb-true, leb-false, le-leb, lt-leb, eqb-true, eqb-false, eq-eqb, ne_eqb}
+use borrow.Author.Tests.{lt-ltb, ltb-true, ltb-false, leb-true, le-leb, lt-leb, eqb-true, eqb-false, eq-eqb, ne_eqb}
 use lib.Dec.{eqb, leb, ltb}
 use lib.IntN.{ℤ, pos, negsuc, nat_abs}
 use lib.ListN.{get_or}
-use lib.Signed.{mag, lt_z, le_z}
+use lib.Signed.{lt_z, le_z}
 use mir.Syntax.{w8, w64}
 use mir.Val.{SFits, to_z, of_z}
 use mir.ValLaws.{to_z-of_z}
-use Rattle.calendar.specs.Said.{Said, answer, refusal}
+use Rattle.calendar.specs.Said.{answer, refusal}
 use Rattle.meter.specs.Lent.{inside}
-use Rattle.meter.specs.Integer.{be_at, stored, twos, word_of, is_width, top_of, half_of}
-use Rattle.meter.specs.Scaled.{is_scale, lowest, highest, none_of, same, integer_of, is_none, is_none_word, is_defined, scaled_of, scaled_read_at, fits_defined}
+use Rattle.meter.specs.Integer.{be_at, twos, word_of, is_width, top_of, half_of}
+use Rattle.meter.specs.Scaled.{is_scale, lowest, highest, none_of, same, integer_of, is_none, is_none_word, is_defined, scaled_read_at, fits_defined}
 use Rattle.meter.specs.Rounding.{is_decimals}
-use Rattle.meter.specs.declared.scaled.Scaled.{Scaled}
 use Rattle.meter.specs.declared.scaled.Scaled.TheVariants as S
 use Rattle.meter.proofs.IntegerLaws.{Wide, twos_low, twos_high}
 

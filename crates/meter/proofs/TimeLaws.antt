@@ -1,20 +1,19 @@
 -- The laws of short CDS times: what 48 bits stand for, and that a time that is written reads back. By the division of the bits into
 -- 16 and 32. Assumes nothing.
 use Rattle.calendar.specs.Calendar.{leap_day}
-use mathlib.Core.Path.{◌≡◌, refl, sym, ap, ◌∙◌}
+use mathlib.Core.Path.{◌≡◌, refl, ap, ◌∙◌}
 use mathlib.Core.Bool.{Bool, true, false, cond}
 use mathlib.Core.List.{List}
 use Prim.Native.Nat.{ℕ, ◌+◌, ◌*◌, ◌/◌, ◌%◌, ◌^◌, ◌≤◌, ◌<◌}
 use native.Mathlib.Nat.{mod-eq_of_lt}
 use native.Mathlib.Omega.{arith}
 use borrow.Author.Tests.{eq-eqb, ne_eqb, leb-true, le-leb}
-use lib.Dec.{leb}
 use lib.ListN.{length}
 use mir.Val.{Val}
 use denote.Laws.{Is}
-use Rattle.calendar.specs.Said.{Said, answer, refusal}
+use Rattle.calendar.specs.Said.{answer, refusal}
 use Rattle.meter.specs.Lent.{inside}
-use Rattle.meter.specs.Integer.{be_at, stored}
+use Rattle.meter.specs.Integer.{stored}
 use Rattle.meter.specs.Time.{last_milli, is_milli, is_time, InDays, bits_of, time_of, time_at, time_read_at}
 use Rattle.meter.specs.declared.time.Time.{Time}
 use Rattle.meter.specs.declared.time.Time.TheVariants as T

@@ -1,6 +1,6 @@
 -- Generalised times (01, "MPHR": "A time is YYYYMMDDHHMMSSZ, with three millisecond digits before Z when long; Gregorian calendar,
 -- years 0000 to 9999, seconds 00..59"; 002, 2.2.2.1 and 2.2.2.2, for the undefined spelling). Assumes nothing.
-use Rattle.std.specs.Prelude.{ℕ, zero, suc, ◌+◌, ◌-◌, ◌*◌, ◌/◌, ◌%◌, min, ◌≡◌, Bool, true, false, cond, ◌&&◌, ◌||◌, List, eqb, leb, get_or, set}
+use Rattle.std.specs.Prelude.{ℕ, zero, suc, ◌+◌, ◌-◌, ◌*◌, ◌/◌, ◌%◌, min, ◌≡◌, Bool, true, cond, ◌&&◌, ◌||◌, List, eqb, leb, get_or, set}
 use Rattle.calendar.specs.Said.{Said, answer, refusal, refused}
 use Rattle.calendar.specs.Calendar.{date, is_date, date_of, days_to, has_day, leap_date}
 use Rattle.calendar.specs.declared.Date.{Date}

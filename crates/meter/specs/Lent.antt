@@ -1,6 +1,6 @@
 -- What leaf readers and writers answer, and what a lent room holds at exit (01, under the table of numbers: "Leaf readers check 20,
 -- then 21. Writers check 22 or 21, then 18. Refusals write nothing."). Assumes nothing.
-use Rattle.std.specs.Prelude.{ℕ, ◌+◌, ◌≡◌, Bool, true, false, cond, ◌&&◌, List, leb, length}
+use Rattle.std.specs.Prelude.{ℕ, ◌+◌, ◌≡◌, Bool, cond, ◌&&◌, List, leb, length}
 use Rattle.calendar.specs.Said.{Said, answer, refusal, refused}
 use Rattle.meter.specs.declared.integer.Written.{Written}
 use Rattle.meter.specs.declared.integer.Written.TheVariants as W

@@ -1,7 +1,7 @@
 -- The meter's reading (01, "Times and scaled numbers": "A meter shows a reading that is missing, whole, or between: the last two carry the
 -- f64 quotient of I and 10^s, one division; whole exactly when 10^s divides I; |I| at most 2^53, else 21"; 02, request Five: "The meter reading
 -- counts it as whole, and gives 21 if the product's magnitude exceeds 2^53"). Assumes nothing.
-use Rattle.std.specs.Prelude.{ℕ, suc, ◌%◌, ◌^◌, ◌≡◌, Bool, true, false, cond, eqb, leb, ℤ, pos, negsuc, nat_abs, Float}
+use Rattle.std.specs.Prelude.{ℕ, suc, ◌%◌, ◌^◌, ◌≡◌, Bool, cond, eqb, leb, ℤ, pos, negsuc, nat_abs, Float}
 use Rattle.std.specs.Int.Signed.{quot_z}
 use Rattle.std.specs.Float.{binary64}
 use Rattle.std.specs.Float.Ieee.{div, of_int}

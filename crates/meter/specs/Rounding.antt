@@ -1,7 +1,7 @@
 -- Rounding (01, "Times and scaled numbers": "Rounded to d decimals (0..15, else 21, for undefined too): the whole M nearest to
 -- I·10^d / 10^s, a tie going away from zero, refused 21 if M leaves the signed 64-bit range"; 02, request Five: "Rounding keeps its rule and
 -- refusal 21 covers results out of range"). Over unbounded integers. Assumes nothing.
-use Rattle.std.specs.Prelude.{ℕ, ◌+◌, ◌-◌, ◌*◌, ◌/◌, ◌^◌, ◌≤◌, ◌<◌, ◌≡◌, Bool, true, false, cond, leb, ltb, ℤ, pos, negsuc, neg_ℤ, nat_abs}
+use Rattle.std.specs.Prelude.{ℕ, ◌+◌, ◌-◌, ◌*◌, ◌/◌, ◌^◌, ◌≤◌, ◌<◌, ◌≡◌, Bool, false, cond, leb, ltb, ℤ, pos, negsuc, neg_ℤ, nat_abs}
 use Rattle.std.specs.Int.Signed.{mag}
 use Rattle.calendar.specs.Said.{Said, answer, refusal, refused}
 use Rattle.meter.specs.Scaled.{Fraction, is_scale, stands_for}

@@ -1,6 +1,6 @@
 -- Short CDS times (01, "Times and scaled numbers": "day from 1 January 2000 (2 bytes), millisecond of day (4 bytes) at most 86,399,999.
 -- All 48 bits one: undefined. Order is by day, then millisecond, and is refused 21 if either time is undefined"). Assumes nothing.
-use Rattle.std.specs.Prelude.{ℕ, ◌+◌, ◌*◌, ◌/◌, ◌%◌, ◌<◌, ◌≡◌, Bool, true, false, cond, ◌&&◌, List, eqb, ltb, leb}
+use Rattle.std.specs.Prelude.{ℕ, ◌+◌, ◌*◌, ◌/◌, ◌%◌, ◌<◌, ◌≡◌, Bool, true, cond, ◌&&◌, List, eqb, ltb, leb}
 use Rattle.calendar.specs.Calendar.{leap_day}
 use Rattle.calendar.specs.Said.{Said, answer, refusal, refused}
 use Rattle.meter.specs.declared.integer.Written.{Written}

@@ -1,7 +1,7 @@
 -- `meter::scaled::is_none_word` meets its contract: half, or top. Assumes nothing.
 use Rattle.meter.specs.Scaled.{is_none_word}
 use lib.Dec.{eqb}
-use mathlib.Core.Bool.{Bool, true, false}
+use mathlib.Core.Bool.{Bool}
 use mathlib.Core.Path.{sym, ap, ◌∙◌}
 use Rattle.meter.proofs.scaled.is_none_word.Goals as goal
 

@@ -5,7 +5,7 @@ use Rattle.meter.specs.Scaled.{none_of}
 use Rattle.meter.specs.Integer.{word_of}
 use Prim.Native.Nat.{ℕ, ◌-◌}
 use native.Mathlib.Omega.{arith}
-use mathlib.Core.Bool.{Bool, true, false}
+use mathlib.Core.Bool.{Bool}
 use mathlib.Core.Path.{sym, ap, ◌∙◌}
 use Rattle.meter.proofs.scaled.none_bits.Goals as goal
 

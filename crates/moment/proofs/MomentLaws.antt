@@ -1,6 +1,6 @@
 -- THE LINE OF MILLISECONDS: how many extra seconds there are before a day, by a test for each of request Two's days; the line has no hole and no millisecond
 -- twice, so its order is that of times; and the times of 48 bits stand below 2 ^ 43 on it. By induction on the day. Assumes nothing.
-use Prim.Native.Nat.{ℕ, zero, suc, ◌+◌, ◌-◌, ◌*◌, ◌/◌, ◌%◌, ◌^◌, ◌≤◌, ◌<◌}
+use Prim.Native.Nat.{ℕ, zero, suc, ◌+◌, ◌-◌, ◌*◌, ◌/◌, ◌%◌, ◌≤◌, ◌<◌}
 use native.Mathlib.Decide.{ℕ_discrete, dec_lt}
 use native.Mathlib.Omega.{arith}
 use mathlib.Core.Path.{◌≡◌, refl, sym, ap, subst, ◌∙◌}

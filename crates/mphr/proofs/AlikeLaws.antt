@@ -1,13 +1,13 @@
 -- Ten bytes compared as two numbers, and a name by three tens. Assumes nothing.
-use Prim.Native.Nat.{ℕ, ◌+◌, ◌-◌, ◌*◌, ◌≤◌, ◌<◌}
+use Prim.Native.Nat.{ℕ, ◌+◌, ◌-◌, ◌*◌, ◌<◌}
 use native.Mathlib.Decide.{dec_lt, ℕ_discrete}
 use native.Mathlib.Omega.{arith}
 use mathlib.Core.Path.{◌≡◌, refl, sym, ap, ◌∙◌}
 use mathlib.Core.Bool.{Bool, true, false}
 use mathlib.Core.List.{List}
 use borrow.Author.Tests.{eq-eqb, ne_eqb}
-use lib.Dec.{T, eqb, eqb→eq}
-use lib.ListN.{length, get_or}
+use lib.Dec.{eqb, eqb→eq}
+use lib.ListN.{get_or}
 use Rattle.meter.specs.Integer.{be_at}
 use Rattle.meter.specs.General.{lead}
 use Rattle.meter.proofs.IntegerLaws.{be_at_same, be_at_lt, bytes_same}

@@ -18,7 +18,7 @@ use Rattle.tables.proofs.Laws.{same_back, number_is, not_clean}
 use Rattle.tables.proofs.Laws as L
 use Rattle.text.proofs.Same.{number_same, value_same}
 use Rattle.mphr.specs.Layout.{names, width_of, kind_of, line_start}
-use Rattle.mphr.specs.Table.{headed, timed, named, framed, valued, declared, total, sum, Sums, bad_frame, bad_value, Fault, bad_header, bad_line, bad_size, bad_totals, bad_times, row, number, shown, table, Clean, Fine, FirstIs}
+use Rattle.mphr.specs.Table.{headed, timed, named, framed, valued, declared, total, sum, Sums, bad_frame, bad_value, Fault, bad_header, bad_line, bad_size, bad_totals, bad_times, row, shown, table, Fine, FirstIs}
 use Rattle.mphr.specs.declared.faults.HeaderFault.{HeaderFault}
 use Rattle.mphr.specs.declared.faults.HeaderFault.TheVariants as F
 use Rattle.mphr.proofs.LayoutLaws.{start_next, start_mono, start_64, start_29}

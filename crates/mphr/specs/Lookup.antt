@@ -1,6 +1,6 @@
 -- The field of a name (01, under the table of numbers: "A name lookup gives the field number whose unpadded name equals the lent bytes,
 -- else 22"). Assumes nothing.
-use Rattle.std.specs.Prelude.{ℕ, zero, suc, Bool, true, false, cond, List, [], ◌∷◌, eqb}
+use Rattle.std.specs.Prelude.{ℕ, suc, Bool, true, false, cond, List, [], ◌∷◌, eqb}
 use Rattle.mphr.specs.Layout.{rows}
 use Rattle.calendar.specs.Said.{Said, answer, refusal, refused}
 use Rattle.mphr.specs.declared.names.FieldNumber.{FieldNumber}

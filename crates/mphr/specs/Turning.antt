@@ -1,9 +1,9 @@
 -- What the walk over the lines knows, and what its helpers find.
 -- Assumes nothing.
-use Rattle.std.specs.Prelude.{ℕ, zero, suc, ◌+◌, ◌*◌, ◌≤◌, ◌<◌, ◌≡◌, Bool, true, false, ◌⊎◌, List, length, get_or}
+use Rattle.std.specs.Prelude.{ℕ, suc, ◌+◌, ◌*◌, ◌≤◌, ◌<◌, ◌≡◌, Bool, true, false, ◌⊎◌, List, length, get_or}
 use Rattle.calendar.specs.Said.{refusing}
 use Rattle.text.specs.Field.{is_number}
-use Rattle.mphr.specs.Layout.{width_of, line_start}
+use Rattle.mphr.specs.Layout.{line_start}
 use Rattle.mphr.specs.Table.{declared, Sums, Fault, bad_header, bad_line, bad_size, bad_totals, bad_times}
 use Rattle.mphr.specs.Resumed.{ReachedIs}
 use Rattle.mphr.specs.declared.faults.Reached.TheVariants as R

@@ -3,17 +3,17 @@
 use mathlib.Core.Path.{◌≡◌, refl, sym, ap, ◌∙◌}
 use mathlib.Core.Bool.{Bool, true, false, cond, ◌&&◌, ◌||◌}
 use mathlib.Core.List.{List}
-use Prim.Native.Nat.{ℕ, zero, suc, ◌+◌, ◌-◌, ◌≤◌, ◌<◌, zero-le}
+use Prim.Native.Nat.{ℕ, zero, suc, ◌+◌, ◌-◌, ◌≤◌, ◌<◌}
 use native.Mathlib.Decide.{dec_lt, ℕ_discrete}
 use native.Mathlib.Omega.{arith}
-use borrow.Author.Tests.{le-ltb, lt-ltb, le-leb, eq-eqb, ne_eqb}
+use borrow.Author.Tests.{le-ltb, le-leb, ne_eqb}
 use lib.Dec.{eqb}
 use lib.IntN.{ℤ, pos, neg_ℤ}
 use lib.ListN.{length, get_or}
 use Rattle.meter.specs.General.{lead, within, run_of, number_of, is_none, is_digits, moment_at, is_general, digits_of, general_at, general_read_at}
 use Rattle.meter.proofs.GeneralRuns.{run_below, number_cong}
 use Rattle.meter.proofs.GeneralWrite.{width_low}
-use Rattle.text.specs.Field.{is_x, signs, spaces, before, is_number, integer_of, is_value, number_read_at}
+use Rattle.text.specs.Field.{is_x, spaces, before, is_number, integer_of, is_value, number_read_at}
 use Rattle.text.specs.declared.Kind.{Kind}
 use Rattle.text.specs.declared.Kind.TheVariants.{Text, Unsigned, Count, Signed, Time, LongTime}
 use Rattle.text.proofs.Exact.{number_zeros}

@@ -14,7 +14,7 @@ use lib.ListN.{length, get_or}
 use Rattle.calendar.specs.Said.{answer}
 use Rattle.meter.specs.General.{number_of}
 use Rattle.meter.proofs.GeneralRuns.{number_join}
-use Rattle.text.specs.Field.{is_x, spaces, is_number, integer_of, is_value, number_read_at, count_at}
+use Rattle.text.specs.Field.{is_x, is_number, integer_of, is_value, number_read_at, count_at}
 use Rattle.text.specs.Grammar.{NumberIn}
 use Rattle.text.specs.declared.Kind.TheVariants.{Count}
 use Rattle.text.specs.declared.Number.TheVariants as N

@@ -1,16 +1,16 @@
 -- THE VALUE OF A NUMBER, both ways: what specs/Field.antt computes of a field is what its digits and its sign say in specs/Grammar.antt. The
 -- bytes before the digits count 0 (Exact), and digits are one number. Assumes nothing.
-use Prim.Native.Nat.{ℕ, zero, suc, ◌+◌, ◌-◌, ◌≤◌, ◌<◌}
+use Prim.Native.Nat.{ℕ, zero, suc, ◌+◌, ◌-◌, ◌<◌}
 use native.Mathlib.Decide.{ℕ_discrete}
 use native.Mathlib.Omega.{arith}
-use mathlib.Core.Path.{◌≡◌, refl, sym, ap, ◌∙◌}
+use mathlib.Core.Path.{◌≡◌, refl, sym, ◌∙◌}
 use mathlib.Core.Bool.{Bool, true}
 use mathlib.Core.List.{List}
-use lib.IntN.{ℤ, pos, neg_ℤ}
+use lib.IntN.{ℤ}
 use lib.ListN.{get_or}
 use Rattle.meter.specs.General.{number_of}
 use Rattle.text.specs.Field.{spaces, is_number, integer_of}
-use Rattle.text.specs.Grammar.{In, NumberIn, DigitsOf, none, digit, NumberOf}
+use Rattle.text.specs.Grammar.{In, DigitsOf, none, digit, NumberOf}
 use Rattle.text.proofs.Exact.{in_digits}
 use Rattle.text.proofs.Laws.{integer_minus, integer_plain}
 use Rattle.text.proofs.Meaning.{number_means, spaces_are}

@@ -9,7 +9,7 @@ use Rattle.uth.proofs.blocks.block_at.Goals as goal
 
 pub find-requires : goal.find-requires
 find-requires c =
-    record { ((c.in-Blocks.n, tt), c.in-Blocks.is) = c.in-Blocks.n; read = sym c.judge.ensures ∙ ap said_count c.in-Blocks.is; has = c.if-k-n.true }
+    record { n = c.in-Blocks.n; read = sym c.judge.ensures ∙ ap said_count c.in-Blocks.is; has = c.if-k-n.true }
 
 pub returns-in-Refused : goal.returns-in-Refused
 returns-in-Refused c =

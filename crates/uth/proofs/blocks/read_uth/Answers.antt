@@ -40,7 +40,7 @@ fill-requires c =
     let w = c.word in
     let k : nat_abs (segments c.args.bytes.now) ≡ w.result = ap (λ (v : ℕ). nat_abs (twos (half_of 4) v)) (sym w.ensures.0) ∙ natural_number w.result w.ensures.1 (ap (λ (v : ℕ). lt_z (twos (half_of 4) v) (pos 0)) w.ensures.0 ∙ o.natural) in
     record {
-      (goal.at.fill-requires c).In-Blocks = c.in-Blocks.n;
+      n = c.in-Blocks.n;
       counted = k;
       read = ap (λ (m : ℕ). judge_from c.args.bytes.now m 642 0) (sym k) ∙ o.walked;
       rowed = c.if-blocks-n.false;

@@ -53,6 +53,7 @@ same_front (x ∷ xs) (y ∷ ys) rs ss f g e d =
     ap (λ (z : List ℕ). z ∷ xs) u ∙ ap (λ (z : List (List ℕ)). y ∷ z) w
 
 in_front : (xs rs : List (List ℕ)) (r : List ℕ) → In r xs → In r (xs ++ rs)
+in_front [] rs r n = elim n [ ]
 in_front (x ∷ xs) rs r (top e) = top e
 in_front (x ∷ xs) rs r (pop n) = pop (in_front xs rs r n)
 

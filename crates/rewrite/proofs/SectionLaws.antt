@@ -294,6 +294,7 @@ unfolding first_after
 mdr_next c e = omega (arith, follow_parts 8 c e)
 
 after_mdr : (rs : List (List ℕ)) → Follows 8 rs → (x : List ℕ) → In x rs → class x 0 ≡ 8
+after_mdr [] f x n = elim n [ ]
 after_mdr (y ∷ rs) (e, f) x (top d) = rw d (mdr_next (class y 0) e)
 after_mdr (y ∷ rs) (e, f) x (pop n) = after_mdr rs (subst (λ (c : ℕ). Follows c rs) (mdr_next (class y 0) e) f) x n
 
@@ -311,6 +312,7 @@ module _ {a : List ℕ} {i : ℕ} {x : Sections} (q : FirstMdr a i x) where
   all_mdrs = go m.rest m.cut (walk_next m.walk q.inside)
     where
       go : (rest : List (List ℕ)) → m.all ≡ m.pre ++ rest → Next a i rest → (r : List ℕ) → In r rest → class r 0 ≡ 8
+      go [] c k r n = elim k [ ]
       go (y ∷ rest) c (next k w) r n = one n
         where
           f : Follows 1 (m.pre ++ (y ∷ rest))

@@ -34,6 +34,7 @@ bytes_append [] ys = omega arith
 bytes_append (x ∷ xs) ys = omega (arith, bytes_append xs ys)
 
 in_left : (xs ys : List (List ℕ)) (r : List ℕ) → In r xs → In r (xs ++ ys)
+in_left [] ys r n = elim n [ ]
 in_left (x ∷ xs) ys r (top e) = top e
 in_left (x ∷ xs) ys r (pop n) = pop (in_left xs ys r n)
 

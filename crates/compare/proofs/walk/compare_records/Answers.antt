@@ -32,13 +32,13 @@ pub overflow_add-at : goal.overflow_add-at
 overflow_add-at c = omega (arith, most (goal.at.overflow_add-at c).After-size_at-size, c.requires.short)
 
 pub loop-at-smaller : goal.loop-at-smaller
-loop-at-smaller c = omega (arith, most (goal.at.loop-at-smaller c).After-size_at-size, size_is (goal.at.loop-at-smaller c).After-size_at-size, compare_least c.loop-at.inv c.loop-at-test.taken)
+loop-at-smaller c = omega (arith, most (goal.at.loop-at-smaller c).After-size_at-size, size_is (goal.at.loop-at-smaller c).After-size_at-size, compare_least c.loop-at.invariant c.loop-at-test.true)
 
 pub loop-at-preserved : goal.loop-at-preserved
 loop-at-preserved c =
     let l = c.loop-at in
     let a = c.args in
-    compare_on l.inv c.size_at-size.result _ _ (turned_at a.original.now l.fixed l.mdr a.cut.now l.at c.size_at-size.result c.in-Go.is c.turn.ensures)
+    compare_on l.invariant c.size_at-size.result _ _ (turned_at a.original.now l.fixed l.mdr a.cut.now l.at c.size_at-size.result c.in-Go.is c.turn.ensures)
 
 pub next_fixed-requires : goal.next_fixed-requires
 next_fixed-requires c = let l = c.loop-at.invariant.left in record { small = c.requires.small; records = l.fs; walk = l.fixed }

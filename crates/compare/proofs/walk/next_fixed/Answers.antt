@@ -22,14 +22,14 @@ pub returns-then-is_fixed : goal.returns-then-is_fixed
 returns-then-is_fixed c = skip_found c.loop-at.invariant (sym c.is_fixed.ensures ∙ c.if-is_fixed.true)
 
 pub overflow_add-at : goal.overflow_add-at
-overflow_add-at c = omega (arith, size_is c, (one (goal.at.overflow_add-at c).In-loop-at).stands.most, c.loop-at.inv.small)
+overflow_add-at c = omega (arith, size_is c, (one (goal.at.overflow_add-at c).In-loop-at).stands.most, c.loop-at.invariant.small)
 
 pub loop-at-smaller : goal.loop-at-smaller
-loop-at-smaller c = omega (arith, size_is c, (one (goal.at.loop-at-smaller c).In-loop-at).stands.most, (one (goal.at.loop-at-smaller c).In-loop-at).least, c.loop-at-test.taken)
+loop-at-smaller c = omega (arith, size_is c, (one (goal.at.loop-at-smaller c).In-loop-at).stands.most, (one (goal.at.loop-at-smaller c).In-loop-at).least, c.loop-at-test.true)
 
 pub loop-at-preserved : goal.loop-at-preserved
 loop-at-preserved c =
-    subst (λ (n : ℕ). Skipping c.args.original.now c.args.from (c.loop-at.at + n)) (sym (size_is c)) (skip_on c.loop-at.inv c.loop-at-test.taken (sym c.is_fixed.ensures ∙ c.if-is_fixed.false))
+    subst (λ (n : ℕ). Skipping c.args.original.now c.args.from (c.loop-at.at + n)) (sym (size_is c)) (skip_on c.loop-at.invariant c.loop-at-test.true (sym c.is_fixed.ensures ∙ c.if-is_fixed.false))
 
 pub returns : goal.returns
 returns c = skip_end c.loop-at.invariant c.loop-at-test.false

@@ -11,30 +11,30 @@ use Rattle.rewrite.proofs.copy.is_same_untimed.Goals.{After-size_at-size}
 size_is : (c : After-size_at-size) → c.size_at-size.result ≡ size c.args.s.now c.loop-at.at
 size_is c =
     let i = c.loop-at in
-    c.size_at-size.ensures ∙ size_there_lem c.args.s.now i.at (omega (arith, untiming_come i.inv c.loop-at-test.taken))
+    c.size_at-size.ensures ∙ size_there_lem c.args.s.now i.at (omega (arith, untiming_come i.invariant c.loop-at-test.true))
 
 pub loop-at-init : goal.loop-at-init
 loop-at-init c = untiming_first c.requires
 
 pub is_one_untimed-requires : goal.is_one_untimed-requires
-is_one_untimed-requires c = untimable c.loop-at.inv c.loop-at-test.taken c.size_at-size.result (size_is c)
+is_one_untimed-requires c = untimable c.loop-at.invariant c.loop-at-test.true c.size_at-size.result (size_is c)
 
 pub returns-then-not-is_one_untimed : goal.returns-then-not-is_one_untimed
 returns-then-not-is_one_untimed c =
-    untiming_no c.loop-at.inv c.loop-at-test.taken c.size_at-size.result (size_is (goal.at.returns-then-not-is_one_untimed c).After-size_at-size) c.is_one_untimed.ensures (not-true c.is_one_untimed.result c.if-not-is_one_untimed.true-raw)
+    untiming_no c.loop-at.invariant c.loop-at-test.true c.size_at-size.result (size_is (goal.at.returns-then-not-is_one_untimed c).After-size_at-size) c.is_one_untimed.ensures (not-true c.is_one_untimed.result c.if-not-is_one_untimed.true-raw)
 
 pub overflow_add-at : goal.overflow_add-at
 overflow_add-at c =
-    let i = c.loop-at.inv in
-    omega (arith, size_is (goal.at.overflow_add-at c).After-size_at-size, untiming_most i c.loop-at-test.taken, i.small)
+    let i = c.loop-at.invariant in
+    omega (arith, size_is (goal.at.overflow_add-at c).After-size_at-size, untiming_most i c.loop-at-test.true, i.small)
 
 pub loop-at-smaller : goal.loop-at-smaller
 loop-at-smaller c =
-    omega (arith, size_is (goal.at.loop-at-smaller c).After-size_at-size, untiming_least c.loop-at.inv c.loop-at-test.taken, c.loop-at-test.taken)
+    omega (arith, size_is (goal.at.loop-at-smaller c).After-size_at-size, untiming_least c.loop-at.invariant c.loop-at-test.true, c.loop-at-test.true)
 
 pub loop-at-preserved : goal.loop-at-preserved
 loop-at-preserved c =
-    untiming_next c.loop-at.inv c.loop-at-test.taken c.size_at-size.result (size_is (goal.at.loop-at-preserved c).After-size_at-size) c.is_one_untimed.ensures (not-false c.is_one_untimed.result c.if-not-is_one_untimed.false-raw)
+    untiming_next c.loop-at.invariant c.loop-at-test.true c.size_at-size.result (size_is (goal.at.loop-at-preserved c).After-size_at-size) c.is_one_untimed.ensures (not-false c.is_one_untimed.result c.if-not-is_one_untimed.false-raw)
 
 pub returns : goal.returns
 returns c = untiming_last c.loop-at.invariant c.loop-at-test.false

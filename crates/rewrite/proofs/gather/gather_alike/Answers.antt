@@ -53,17 +53,17 @@ pub gather_one-requires : goal.gather_one-requires
 gather_one-requires c = one (goal.at.gather_one-requires c).In-loop-at
 
 pub overflow_add-records : goal.overflow_add-records
-overflow_add-records c = let k = known (goal.at.overflow_add-records c).At-loop-at in omega (arith, k.few, going_come k c.loop-at-test.taken)
+overflow_add-records c = let k = known (goal.at.overflow_add-records c).At-loop-at in omega (arith, k.few, going_come k c.loop-at-test.true)
 
 pub overflow_add-at : goal.overflow_add-at
-overflow_add-at c = omega (arith, sized (goal.at.overflow_add-at c).Else-size_at-size, going_come (known (goal.at.overflow_add-at c).At-loop-at) c.loop-at-test.taken)
+overflow_add-at c = omega (arith, sized (goal.at.overflow_add-at c).Else-size_at-size, going_come (known (goal.at.overflow_add-at c).At-loop-at) c.loop-at-test.true)
 
 pub loop-at-smaller : goal.loop-at-smaller
-loop-at-smaller c = omega (arith, sized (goal.at.loop-at-smaller c).Else-size_at-size, going_least (known (goal.at.loop-at-smaller c).At-loop-at) c.loop-at-test.taken, c.loop-at-test.taken)
+loop-at-smaller c = omega (arith, sized (goal.at.loop-at-smaller c).Else-size_at-size, going_least (known (goal.at.loop-at-smaller c).At-loop-at) c.loop-at-test.true, c.loop-at-test.true)
 
 pub loop-at-preserved : goal.loop-at-preserved
 loop-at-preserved c =
-    alike_next c.loop-at.inv c.loop-at-test.taken (omega (arith, sized (goal.at.loop-at-preserved c).Else-size_at-size, going_least (known (goal.at.loop-at-preserved c).At-loop-at) c.loop-at-test.taken)) (sized (goal.at.loop-at-preserved c).Else-size_at-size) _ _ c.gather_one.ensures
+    alike_next c.loop-at.invariant c.loop-at-test.true (omega (arith, sized (goal.at.loop-at-preserved c).Else-size_at-size, going_least (known (goal.at.loop-at-preserved c).At-loop-at) c.loop-at-test.true)) (sized (goal.at.loop-at-preserved c).Else-size_at-size) _ _ c.gather_one.ensures
 
 pub shape_of-table : goal.shape_of-table
 shape_of-table c = (known (goal.at.shape_of-table c).At-loop-at).long ∙ sym c.requires.going.long

@@ -57,8 +57,8 @@ overflow_add-g-then-same c = omega (arith, low-2 (goal.at.overflow_add-g-then-sa
 pub returns-then-same : goal.returns-then-same
 returns-then-same c =
     let a = c.args in
-    let d = same_parts (omega (arith, first-come (goal.at.returns-then-same c).Else-f-g-2)) (omega (arith, second-come (goal.at.returns-then-same c).Else-f-g-2, c.if-f-g-2.left)) c.is_same-then-same.ensures in
-    like_last c.requires a.same (same-front (goal.at.returns-then-same c).Else-f-g-2) c.if-f-g-2.left (front_bytes (goal.at.returns-then-same c).After-is_same) (not-false c.is_same.result c.if-not-is_same.false-raw)
+    let d = same_parts (omega (arith, first-come (goal.at.returns-then-same c).Else-f-g-2)) (omega (arith, second-come (goal.at.returns-then-same c).Else-f-g-2, c.if-f-g-2.false)) c.is_same-then-same.ensures in
+    like_last c.requires a.same (same-front (goal.at.returns-then-same c).Else-f-g-2) c.if-f-g-2.false (front_bytes (goal.at.returns-then-same c).After-is_same) (not-false c.is_same.result c.if-not-is_same.false-raw)
     (seen_whole a.first.now a.second.now (3307 + a.f.sphr + a.f.ipr) (3307 + a.g.sphr + a.g.ipr) a.f.global a.same c.if-same.true d)
 
 -- and but for the times
@@ -82,10 +82,10 @@ pub overflow_add-g-3 : goal.overflow_add-g-3
 overflow_add-g-3 c = omega (arith, low-2 (goal.at.overflow_add-g-3 c).Else-f-g-2)
 
 pub is_untimed-requires-2 : goal.is_untimed-requires-2
-is_untimed-requires-2 c = global_seeable c.requires c.if-f-g-2.left
+is_untimed-requires-2 c = global_seeable c.requires c.if-f-g-2.false
 
 pub returns : goal.returns
 returns c =
     let same = c.args.same in
-    like_last c.requires same (same-front (goal.at.returns c).Else-f-g-2) c.if-f-g-2.left (seen_untimed same c.if-same.false c.is_untimed.ensures) (not-false c.is_untimed.result c.if-not-is_untimed.false-raw)
+    like_last c.requires same (same-front (goal.at.returns c).Else-f-g-2) c.if-f-g-2.false (seen_untimed same c.if-same.false c.is_untimed.ensures) (not-false c.is_untimed.result c.if-not-is_untimed.false-raw)
     (seen_untimed same c.if-same.false c.is_untimed-2.ensures)

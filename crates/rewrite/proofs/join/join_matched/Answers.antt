@@ -69,7 +69,7 @@ plan_of-requires c =
       long = o.holds.long;
       nine = o.nine;
       front_low = omega (arith, come-1 (goal.at.plan_of-requires c).Start, low-1 (goal.at.plan_of-requires c).Start);
-      kept_low = omega (arith, c.if-kept-gt2147483647.left);
+      kept_low = omega (arith, c.if-kept-gt2147483647.false);
       records_low = c.gather_both-records.ensures.few;
     }
 

@@ -45,7 +45,7 @@ sums_fit-requires c = two_headers c.requires
 
 pub returns-then-not-sums_fit : goal.returns-then-not-sums_fit
 returns-then-not-sums_fit c =
-    answer_at c.refused-then-not-sums_fit.ensures (says_sums (sections (goal.at.returns-then-not-sums_fit c).After-sections_of-g).two c.is_alike.ensures (alike (goal.at.returns-then-not-sums_fit c).After-is_late) (late_is c.args.same (sections (goal.at.returns-then-not-sums_fit c).After-sections_of-g) (late (goal.at.returns-then-not-sums_fit c).After-is_late false c.if-is_late.left)) c.sums_fit.ensures (not-true c.sums_fit.result c.if-not-sums_fit.true-raw))
+    answer_at c.refused-then-not-sums_fit.ensures (says_sums (sections (goal.at.returns-then-not-sums_fit c).After-sections_of-g).two c.is_alike.ensures (alike (goal.at.returns-then-not-sums_fit c).After-is_late) (late_is c.args.same (sections (goal.at.returns-then-not-sums_fit c).After-sections_of-g) (late (goal.at.returns-then-not-sums_fit c).After-is_late false c.if-is_late.false)) c.sums_fit.ensures (not-true c.sums_fit.result c.if-not-sums_fit.true-raw))
 
 pub join_matched-requires : goal.join_matched-requires
 join_matched-requires c =
@@ -55,4 +55,4 @@ pub returns : goal.returns
 returns c =
     let n = sections (goal.at.returns c).After-sections_of-g in
     let i = c.args.same in
-    c.join_matched.ensures i n.two ((c.is_alike.ensures n.two).right (alike (goal.at.returns c).After-is_late)) (late_is i n (late (goal.at.returns c).After-is_late false c.if-is_late.left))
+    c.join_matched.ensures i n.two ((c.is_alike.ensures n.two).right (alike (goal.at.returns c).After-is_late)) (late_is i n (late (goal.at.returns c).After-is_late false c.if-is_late.false))

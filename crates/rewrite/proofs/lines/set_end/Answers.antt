@@ -1,6 +1,6 @@
 -- `rewrite::lines::set_end` meets its contract: the second's end time, and the first's name with the second's end. Assumes nothing.
 use native.Mathlib.Omega.{arith}
-use mathlib.Core.Path.{sym}
+use mathlib.Core.Path.{sym, ◌∙◌}
 use Rattle.parts.proofs.CutHeaderLaws.{name_width}
 use Rattle.rewrite.proofs.LineLaws.{width_11}
 use Rattle.rewrite.proofs.SumLaws.{end_is, ended_is, end_adds}

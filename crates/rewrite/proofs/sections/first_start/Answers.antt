@@ -10,7 +10,7 @@ use Rattle.rewrite.proofs.sections.first_start.Goals.{After-size_at-at}
 size_is : (c : After-size_at-at) → c.size_at-at.result ≡ size c.args.s.now c.loop-at.at
 size_is c =
     let i = c.loop-at in
-    c.size_at-at.ensures ∙ size_there_lem c.args.s.now i.at (omega (arith, left_come i.inv.left c.loop-at-test.taken))
+    c.size_at-at.ensures ∙ size_there_lem c.args.s.now i.at (omega (arith, left_come i.invariant.left c.loop-at-test.true))
 
 pub loop-at-init : goal.loop-at-init
 loop-at-init c = start_first c.requires
@@ -22,10 +22,10 @@ pub time_at-time-requires : goal.time_at-time-requires
 time_at-time-requires c = omega (arith, left_come c.loop-at.invariant.left c.loop-at-test.true)
 
 pub overflow_add-at-in-Undefined : goal.overflow_add-at-in-Undefined
-overflow_add-at-in-Undefined c = let i = c.loop-at.inv.left in omega (arith, size_is c, left_most i c.loop-at-test.taken, i.small)
+overflow_add-at-in-Undefined c = let i = c.loop-at.invariant.left in omega (arith, size_is c, left_most i c.loop-at-test.true, i.small)
 
 pub loop-at-smaller : goal.loop-at-smaller
-loop-at-smaller c = omega (arith, size_is c, left_least c.loop-at.inv.left c.loop-at-test.taken, c.loop-at-test.taken)
+loop-at-smaller c = omega (arith, size_is c, left_least c.loop-at.invariant.left c.loop-at-test.true, c.loop-at-test.true)
 
 pub loop-at-preserved : goal.loop-at-preserved
 loop-at-preserved c =

@@ -12,10 +12,10 @@ use Rattle.rewrite.proofs.sections.sections_of.Goals.{After-size_at-size}
 size_is : (c : After-size_at-size) → c.size_at-size.result ≡ size c.args.s.now c.loop-at.at
 size_is c =
     let i = c.loop-at in
-    c.size_at-size.ensures ∙ size_there_lem c.args.s.now i.at (omega (arith, (turn_lead i.inv c.loop-at-test.taken refl).come))
+    c.size_at-size.ensures ∙ size_there_lem c.args.s.now i.at (omega (arith, (turn_lead i.invariant c.loop-at-test.true refl).come))
 
 most : (c : After-size_at-size) → c.loop-at.at + c.size_at-size.result ≤ length c.args.s.now
-most c = turn_most c.loop-at.inv c.loop-at-test.taken (size_is c)
+most c = turn_most c.loop-at.invariant c.loop-at-test.true (size_is c)
 
 pub loop-at-init : goal.loop-at-init
 loop-at-init c = sections_first c.parts_of-found.result c.requires c.parts_of-found.ensures
@@ -29,13 +29,13 @@ returns-then-s-at-gt7 c = c.with_mdrs.ensures
 
 pub section_one-found-requires : goal.section_one-found-requires
 section_one-found-requires c =
-    record { sectioning = c.loop-at.inv; inside = c.loop-at-test.taken; sized = size_is c; other = omega (arith, c.if-s-at-gt7.false) }
+    record { sectioning = c.loop-at.invariant; inside = c.loop-at-test.true; sized = size_is c; other = omega (arith, c.if-s-at-gt7.false) }
 
 pub overflow_add-at : goal.overflow_add-at
 overflow_add-at c = omega (arith, most (goal.at.overflow_add-at c).After-size_at-size)
 
 pub loop-at-smaller : goal.loop-at-smaller
-loop-at-smaller c = omega (arith, turn_least c.loop-at.inv c.loop-at-test.taken (size_is (goal.at.loop-at-smaller c).After-size_at-size), most (goal.at.loop-at-smaller c).After-size_at-size)
+loop-at-smaller c = omega (arith, turn_least c.loop-at.invariant c.loop-at-test.true (size_is (goal.at.loop-at-smaller c).After-size_at-size), most (goal.at.loop-at-smaller c).After-size_at-size)
 
 pub loop-at-preserved : goal.loop-at-preserved
 loop-at-preserved c = c.section_one-found.ensures

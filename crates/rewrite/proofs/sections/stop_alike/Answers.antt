@@ -37,18 +37,18 @@ later_place-place-requires c =
     (omega (arith, i.head), left_come i.left c.loop-at-test.true)
 
 pub overflow_add-at : goal.overflow_add-at
-overflow_add-at c = let i = c.loop-at.inv.on.after.left in omega (arith, sized (goal.at.overflow_add-at c).Else-size_at-size, left_most i c.loop-at-test.taken, i.small)
+overflow_add-at c = let i = c.loop-at.invariant.on.after.left in omega (arith, sized (goal.at.overflow_add-at c).Else-size_at-size, left_most i c.loop-at-test.true, i.small)
 
 pub loop-at-smaller : goal.loop-at-smaller
-loop-at-smaller c = omega (arith, sized (goal.at.loop-at-smaller c).Else-size_at-size, left_least c.loop-at.inv.on.after.left c.loop-at-test.taken, c.loop-at-test.taken)
+loop-at-smaller c = omega (arith, sized (goal.at.loop-at-smaller c).Else-size_at-size, left_least c.loop-at.invariant.on.after.left c.loop-at-test.true, c.loop-at-test.true)
 
 pub loop-at-preserved : goal.loop-at-preserved
 loop-at-preserved c =
     let i = c.loop-at in
     record {
-      on = stop_next i.inv.on c.later_place-place.result _ c.loop-at-test.taken (sized (goal.at.loop-at-preserved c).Else-size_at-size) c.later_place-place.ensures;
-      from = omega (arith, i.inv.from);
-      begun = λ e. absurd (omega (arith, i.inv.from, sized (goal.at.loop-at-preserved c).Else-size_at-size, left_least i.inv.on.after.left c.loop-at-test.taken));
+      on = stop_next i.invariant.on c.later_place-place.result _ c.loop-at-test.true (sized (goal.at.loop-at-preserved c).Else-size_at-size) c.later_place-place.ensures;
+      from = omega (arith, i.invariant.from);
+      begun = λ e. absurd (omega (arith, i.invariant.from, sized (goal.at.loop-at-preserved c).Else-size_at-size, left_least i.invariant.on.after.left c.loop-at-test.true));
     }
 
 pub returns : goal.returns

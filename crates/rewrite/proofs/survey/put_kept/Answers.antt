@@ -41,7 +41,7 @@ loop-at-smaller c = let t = in-turn (goal.at.loop-at-smaller c).In-loop-at in om
 pub loop-at-preserved : goal.loop-at-preserved
 loop-at-preserved c =
     let o = rw (size_is (goal.at.loop-at-preserved c).After-size_at-size) at c.put_one-to.ensures in
-    rw (size_is (goal.at.loop-at-preserved c).After-size_at-size) (putting_next c.loop-at.inv c.loop-at-test.taken o)
+    rw (size_is (goal.at.loop-at-preserved c).After-size_at-size) (putting_next c.loop-at.invariant c.loop-at-test.true o)
 
 pub shape_of-room : goal.shape_of-room
 shape_of-room c = c.loop-at.invariant.long

@@ -16,7 +16,7 @@ use Rattle.judge.proofs.Covering.{complete_fine, whole_come}
 use Rattle.finish.specs.Finish.{starts, put, Refuses, Accepts, FinishedIs, RowsBy, RefusesBy, VerdictIs, judged_as, refused_with}
 use Rattle.finish.specs.Finish as F
 use Rattle.finish.specs.declared.Finished.{Finished}
-use Rattle.finish.specs.Ahead.{Record, Ahead}
+use Rattle.finish.specs.Ahead.{Record}
 use Rattle.finish.specs.Rows.{group_at, subclass_at, ordinal, row, rows_after, rows_of}
 use Rattle.finish.specs.Slots.{slot_of, slot_at}
 use Rattle.finish.specs.Fill.{Fillable, Filling, PutRow, PutsRow, Fills}

@@ -1,10 +1,8 @@
 -- THE VERDICT AND THE LISTER IN TURN answer what the finished judge did (`FinishedIs`), 18 included: both ways. Assumes nothing.
-use Prim.Native.Nat.{ℕ, ◌<◌}
+use Prim.Native.Nat.{ℕ}
 use mathlib.Core.Path.{◌≡◌, refl, sym, subst}
 use mathlib.Core.List.{List}
 use lib.ListN.{length}
-use Rattle.calendar.specs.declared.Refusal.{Refusal}
-use Rattle.judge.specs.Extent.{Complete, Covered}
 use Rattle.finish.specs.Finish.{Refuses, Unfit, VerdictIs, FinishedIs, InTurn, unfit, little, listed}
 use Rattle.finish.specs.Finish as F
 use Rattle.finish.specs.declared.Finished.{Finished}

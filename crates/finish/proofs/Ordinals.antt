@@ -9,7 +9,7 @@ use borrow.Author.Tests.{eqb-true}
 use lib.Dec.{eqb}
 use Rattle.record.proofs.FieldLaws.{both}
 use Rattle.judge.specs.Table.{class_at}
-use Rattle.finish.specs.Rows.{group_at, subclass_at, is_of, how_many, ordinal, row, rows_after, rows_of}
+use Rattle.finish.specs.Rows.{group_at, subclass_at, is_of, how_many, ordinal, rows_after, rows_of}
 use Rattle.finish.specs.Ordinals.{ordinals_of, up_from}
 
 -- the triple of a row is its record's, so its ordinal is the number of those before

@@ -20,7 +20,7 @@ use Rattle.finish.specs.Finish.{starts, FinishedIs, VerdictIs, Refuses, Unfit, R
 use Rattle.finish.specs.Finish as F
 use Rattle.finish.specs.declared.Finished.{Finished}
 use Rattle.finish.specs.declared.Finished.TheVariants.{Accepted, Refused}
-use Rattle.finish.proofs.AheadLaws.{Turn, ahead_step, ahead_stop, one_ahead, all_ahead}
+use Rattle.finish.proofs.AheadLaws.{ahead_step, ahead_stop, all_ahead}
 
 -- one that passes, and one that does not
 passes_on : (p : List (List ℕ)) (a : List ℕ) (i : ℕ) (l : List ℕ) → is_allowed p a i ≡ true → first_against p a (i ∷ l) ≡ first_against p a l

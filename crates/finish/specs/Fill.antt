@@ -1,5 +1,5 @@
 -- What is known while the list of rows is filled. No promise names these: they say what a store has come to. Assumes nothing.
-use Rattle.std.specs.Prelude.{ℕ, ◌+◌, ◌≤◌, ◌<◌, ◌≡◌, List, [], ◌∷◌, length, get_or, set}
+use Rattle.std.specs.Prelude.{ℕ, ◌+◌, ◌≤◌, ◌<◌, ◌≡◌, List, length, get_or, set}
 use Rattle.judge.specs.Table.{size_at}
 use Rattle.judge.specs.Stretch.{Even}
 use Rattle.finish.specs.Ahead.{Record, Ahead}

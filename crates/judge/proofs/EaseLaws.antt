@@ -1,14 +1,14 @@
 -- What the buffer says of a record, whatever its room: each pointer at or into the record by its own entry. Assumes nothing.
-use Rattle.std.proofs.Common.{◌≡◌, ℕ, ◌+◌, ◌*◌, ◌<◌, ◌≤◌, List, length, get_or, sym, refl, ap, ◌∙◌, zero-le, le_refl, arith}
+use Rattle.std.proofs.Common.{◌≡◌, ℕ, ◌+◌, ◌*◌, ◌<◌, ◌≤◌, List, length, get_or, refl, ◌∙◌, zero-le, le_refl, arith}
 use native.Mathlib.Decide.{dec_lt}
 use Rattle.judge.specs.declared.pending.Hold.{Hold}
 use Rattle.judge.specs.declared.pointers.Pointers.{Pointers}
 use Rattle.judge.specs.Table.{Site, size_at, kind_at, aim_at, offset_at}
 use Rattle.judge.specs.Step.{any, Points, Quiet, Calm, Kept}
 use Rattle.judge.specs.Sorting.{Shuffled, Sorted}
-use Rattle.judge.specs.Pending.{key_of, EntryIs, Held, Holds, HoldsBut, GatheredIs, nothing_held, no_hold, ReadyIs, SkippedIs, HoldIs, EasedIs}
+use Rattle.judge.specs.Pending.{key_of, Held, Holds, GatheredIs, nothing_held, no_hold, ReadyIs, SkippedIs, HoldIs, EasedIs}
 use Rattle.judge.proofs.SortingLaws.{sorted_none}
-use Rattle.judge.proofs.ScanLaws.{bounded, to_any}
+use Rattle.judge.proofs.ScanLaws.{bounded}
 
 -- the same pointers, from a later byte on
 pub later : {a : List ℕ} {i i' : ℕ} {h : List ℕ} {k : Hold} → i ≤ i' → HoldIs a i h k → HoldIs a i' h k

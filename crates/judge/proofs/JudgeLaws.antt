@@ -10,7 +10,7 @@ use Rattle.tables.proofs.Passing.{passes}
 use Rattle.mphr.specs.Table.{declared, total, Fine}
 use Rattle.mphr.specs.Table as M
 use Rattle.mphr.proofs.Export.{clean_whole, clean_fine, sized}
-use Rattle.judge.specs.Table.{Site, site, first, class_at, kind_at, size_at, aim_at, offset_at, Sound, Leads, here, on, next, Target, Pointer, Head, Unknown, Misplaced, Surplus, Wrong, part_left, unknown, misplaced, bad_size, bad_times, surplus, bad_target, points_inside, points_at_other, too_few, row_at, Fault, main, at, too_long, row, number, place, shown, Clean, Gives, Given, Open}
+use Rattle.judge.specs.Table.{Site, site, first, class_at, kind_at, size_at, aim_at, offset_at, Sound, Leads, here, on, next, Target, Pointer, Head, Unknown, Misplaced, Surplus, Wrong, part_left, unknown, misplaced, bad_size, bad_times, surplus, bad_target, points_inside, points_at_other, too_few, row_at, Fault, main, at, too_long, row, number, place, shown, Gives, Given, Open}
 use Rattle.judge.specs.Step.{Ranked, any, Points, FirstPointer, Quiet}
 use Rattle.judge.specs.Turning.{Onward, Past, Turn}
 use Rattle.judge.proofs.WayLaws.{leads_le, snoc, ends_by, holds, sound?, target?, facts}

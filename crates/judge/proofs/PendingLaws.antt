@@ -1,11 +1,11 @@
 -- The scan gathers the pointers that it meets; those of the held that are alike are passed. Assumes nothing.
-use Rattle.std.proofs.Common.{◌≡◌, ℕ, ◌+◌, ◌*◌, ◌<◌, ◌≤◌, ◌⊎◌, List, length, get_or, set, sym, refl, ap, ◌∙◌, inl, inr, ⊎_elim, zero-le, le_refl, arith, length-set, get_or-set_other, get_or-set_same}
+use Rattle.std.proofs.Common.{◌≡◌, ℕ, ◌+◌, ◌<◌, ◌≤◌, ◌⊎◌, List, length, get_or, set, sym, refl, ap, ◌∙◌, inl, inr, ⊎_elim, zero-le, le_refl, arith, length-set, get_or-set_other, get_or-set_same}
 use native.Mathlib.Decide.{ℕ_discrete}
-use Rattle.judge.specs.Table.{Site, site, class_at, size_at, aim_at, offset_at, Sound, Leads}
+use Rattle.judge.specs.Table.{Site, class_at, size_at, aim_at, offset_at}
 use Rattle.judge.specs.Step.{any, Points, Scan, Met}
 use Rattle.judge.specs.Pending.{key_of, EntryIs, Held, HoldsBut, PutIs, SkippedIs}
 use Rattle.judge.proofs.WayLaws.{leads_le}
-use Rattle.judge.proofs.ScanLaws.{scan_sound, scan_narrow, scan_pass, before_or_at}
+use Rattle.judge.proofs.ScanLaws.{scan_sound, scan_pass, before_or_at}
 
 -- those before byte q are held, without those that are x
 abbrev pub Got : List ℕ → List ℕ → ℕ → ℕ → ℕ → ℕ → ℕ → ℕ → Type 0

@@ -1,8 +1,8 @@
 -- A profile, line by line and record by record: what is asked of the lines that are left is what is asked of all; and records of one size, one after the
 -- other, as far as they meet it. Assumes nothing.
-use Rattle.std.proofs.Common.{◌≡◌, ℕ, zero, suc, ◌+◌, ◌<◌, ◌≤◌, Bool, true, false, not, ◌||◌, eqb, List, [], ◌∷◌, length, get_or, drop, sym, refl, ap, ◌∙◌, subst, add-one, arith, drop-cons, eq-eqb, ne_eqb}
+use Rattle.std.proofs.Common.{◌≡◌, ℕ, zero, suc, ◌+◌, ◌<◌, ◌≤◌, Bool, true, false, not, ◌||◌, List, [], ◌∷◌, length, get_or, drop, sym, refl, ap, ◌∙◌, subst, add-one, arith, drop-cons, eq-eqb, ne_eqb}
 use lib.Seq.{drop-nil}
-use Rattle.judge.specs.Table.{class_at, size_at}
+use Rattle.judge.specs.Table.{size_at}
 use Rattle.judge.specs.Stretch.{Even}
 use Rattle.judge.specs.Stretch as S
 use Rattle.judge.specs.Profile.{is_let, lets, speaks, allows, is_allowed, Meeting, over, further, OneSize, Passed}

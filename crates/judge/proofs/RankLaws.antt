@@ -1,13 +1,11 @@
 -- The rank of a header from what it was found to show: the first fault that holds, in the order of the numbers, none of the lower ones holding.
 -- Each of 6 to 11 by itself: it does not hold, or is the first that does, or comes later. Assumes nothing.
-use Rattle.std.proofs.Common.{◌≡◌, ℕ, ◌+◌, ◌-◌, ◌<◌, ◌≤◌, Bool, true, false, ◌&&◌, ltb, leb, List, length, get_or, sym, refl, ap, ◌∙◌, arith, ltb-false, ltb-true, lt-ltb, leb-true}
+use Rattle.std.proofs.Common.{◌≡◌, ℕ, ◌+◌, ◌-◌, ◌<◌, ◌≤◌, Bool, true, false, ◌&&◌, ltb, leb, List, get_or, sym, refl, ap, ◌∙◌, arith, ltb-false, ltb-true, lt-ltb, leb-true}
 use Rattle.record.specs.Header.{is_class, is_group}
-use Rattle.record.specs.Follow.{may_follow}
 use Rattle.record.specs.Times.{timed_at}
 use Rattle.mphr.specs.Table.{declared, total}
 use Rattle.meter.specs.Integer.{be_at}
 use Rattle.meter.proofs.IntegerLaws.{be_at_same}
-use Rattle.meter.specs.Time.{time_at}
 use Rattle.judge.specs.Table.{class_at, kind_at, size_at, Sound, Unknown, Misplaced, Surplus}
 use Rattle.judge.specs.Step.{Six, Facing, Bears, Lowest, Ranked, RankIs, Excess, Sized, SizedIs, SixLeft, SixIn}
 

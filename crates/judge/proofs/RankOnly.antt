@@ -1,6 +1,6 @@
 -- NO SECOND RANK of a header, and no second answer of `is_fewer`: what the two promise determines what they answer. By the numbers 6 to 11, each of
 -- which says whether it is the lowest. Assumes nothing.
-use Rattle.std.proofs.Common.{◌≡◌, ℕ, suc, ◌<◌, ◌≤◌, Bool, true, false, List, refl, le_trans, arith}
+use Rattle.std.proofs.Common.{◌≡◌, ℕ, suc, ◌≤◌, Bool, true, false, List, refl, le_trans, arith}
 use native.Mathlib.Decide.{ℕ_discrete}
 use Rattle.judge.specs.Step.{Lowest, RankIs}
 use Rattle.judge.specs.Turning.{FewerIs}

@@ -1,17 +1,16 @@
 -- A record like the last one goes the way of a turn: no fault is shown at it, and the next record starts after its size. By each row of the
 -- table in turn, as the turn does; and a run of them by induction. Assumes nothing.
-use Rattle.std.proofs.Common.{◌≡◌, ℕ, ◌+◌, ◌*◌, ◌<◌, ◌≤◌, Bool, true, false, List, length, get_or, set, sym, refl, ap, ◌∙◌, le_refl, arith, get_or-set_same, set-set}
+use Rattle.std.proofs.Common.{◌≡◌, ℕ, ◌+◌, ◌*◌, ◌<◌, ◌≤◌, true, false, List, length, get_or, set, sym, refl, ap, ◌∙◌, le_refl, arith, get_or-set_same, set-set}
 use native.Mathlib.Decide.{dec_le}
 use lib.Seq.{set-get_or}
 use Rattle.record.specs.Header.{is_class}
 use Rattle.record.specs.Times.{timed_at}
 use Rattle.mphr.specs.Table.{declared, total}
 use Rattle.judge.specs.declared.pointers.Pointers.{Pointers}
-use Rattle.judge.specs.Table.{site, class_at, kind_at, size_at, one_more, Sound, Unknown, Misplaced, Surplus}
+use Rattle.judge.specs.Table.{site, class_at, kind_at, one_more, Sound, Misplaced, Surplus}
 use Rattle.judge.specs.Step.{Six, Ranked, any, Quiet, EntireIs, Kept}
 use Rattle.judge.specs.Turning.{Totals, Turn, Ready, Gone}
 use Rattle.judge.specs.Run.{LikeIs, Alike, none, more, some_more}
-use Rattle.judge.proofs.WayLaws.{leads_le}
 use Rattle.judge.proofs.RankLaws.{clash, rank_12, class_most, known}
 use Rattle.judge.proofs.ScanLaws.{clear_still}
 use Rattle.judge.proofs.JudgeLaws.{plain, turn_next}

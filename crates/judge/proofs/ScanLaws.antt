@@ -1,11 +1,11 @@
 -- The scan over the pointer records, and what is kept of them from record to record: the pointers that are looked for are from the scan's record
 -- on; it passes what is not looked for, and the first that it meets is the first there is. Assumes nothing.
-use Rattle.std.proofs.Common.{◌≡◌, ℕ, ◌+◌, ◌-◌, ◌<◌, ◌≤◌, Bool, true, false, ◌⊎◌, List, length, get_or, sym, refl, ap, ◌∙◌, inl, inr, ⊎_elim, zero-le, le_refl, arith}
+use Rattle.std.proofs.Common.{◌≡◌, ℕ, ◌+◌, ◌-◌, ◌<◌, ◌≤◌, Bool, true, ◌⊎◌, List, length, get_or, sym, refl, ap, ◌∙◌, inl, inr, ⊎_elim, zero-le, le_refl, arith}
 use native.Mathlib.Decide.{dec_lt}
 use Rattle.mphr.specs.Table.{declared}
-use Rattle.judge.specs.Table.{Site, site, first, class_at, size_at, aim_at, offset_at, kind_at, one_more, Sound, Leads, here, on, next, Target}
+use Rattle.judge.specs.Table.{Site, site, first, class_at, size_at, offset_at, one_more, Sound, Leads, here, on, next}
 use Rattle.judge.specs.declared.pointers.Pointers.{Pointers}
-use Rattle.judge.specs.Step.{Started, any, Points, FirstPointer, Quiet, Scan, Met, Beyond, Looking, Rising, Order, Kept, Search, NextIs, Settling, Follows, JoinedIs, Calm, ClearIs}
+use Rattle.judge.specs.Step.{Started, any, Points, FirstPointer, Quiet, Scan, Met, Looking, Rising, Order, Kept, Search, NextIs, Settling, Follows, JoinedIs, Calm, ClearIs}
 use Rattle.judge.proofs.WayLaws.{leads_le, snoc, goes, linear, met, near, ends_by}
 
 -- the same pointer, for other bounds and any kind

@@ -1,8 +1,8 @@
 -- Stretches of records of one size: two that meet are one, and a run is one. By induction. Assumes nothing.
-use Rattle.std.proofs.Common.{◌≡◌, ℕ, ◌+◌, ◌<◌, ◌≤◌, List, length, sym, refl, ◌∙◌, subst, arith}
+use Rattle.std.proofs.Common.{◌≡◌, ℕ, ◌+◌, List, sym, subst}
 use Rattle.judge.specs.Table.{size_at, Judged}
-use Rattle.judge.specs.Run.{LikeIs, Alike}
-use Rattle.judge.specs.Stretch.{Even, over, further, StretchIs, no_stretch}
+use Rattle.judge.specs.Run.{Alike}
+use Rattle.judge.specs.Stretch.{Even, over, further, no_stretch}
 use Rattle.judge.specs.Profile as P
 use Rattle.judge.specs.Turning.{WalkedIs}
 use Rattle.judge.specs.declared.arrival.Arrival.{Arrival}

@@ -1,6 +1,6 @@
 -- Times that stand for sure: their milliseconds are such as every day has, or they are undefined, and as numbers of 48 bits, of which an
 -- undefined time is the greatest, the first is not above the second. By the day and the millisecond of each. Assumes nothing.
-use Rattle.std.proofs.Common.{◌≡◌, ℕ, ◌+◌, ◌*◌, ◌/◌, ◌%◌, ◌^◌, ◌<◌, ◌≤◌, Bool, true, false, cond, not, ◌&&◌, ◌||◌, ltb, ◌⊎◌, List, get_or, sym, refl, ap, ◌∙◌, inl, inr, arith, ltb-false, le-ltb, le-leb}
+use Rattle.std.proofs.Common.{◌≡◌, ℕ, ◌+◌, ◌*◌, ◌/◌, ◌%◌, ◌^◌, ◌<◌, ◌≤◌, Bool, true, false, cond, ◌||◌, ltb, ◌⊎◌, List, get_or, sym, refl, ap, ◌∙◌, inl, inr, arith, ltb-false, le-ltb, le-leb}
 use native.Mathlib.Decide.{ℕ_discrete}
 use Rattle.calendar.specs.Said.{answer}
 use Rattle.meter.specs.Integer.{be_at}

@@ -1,5 +1,5 @@
 -- Numbers byte by byte, of any width. Assumes nothing.
-use Rattle.std.proofs.Common.{◌≡◌, ℕ, suc, ◌+◌, ◌*◌, List, get_or, sym, ap, ◌∙◌, arith}
+use Rattle.std.proofs.Common.{◌≡◌, ℕ, suc, ◌+◌, ◌*◌, List, get_or, ap, arith}
 use Rattle.meter.specs.Integer.{be_at}
 
 pub one_byte : (a : List ℕ) (i : ℕ) {x : ℕ} → x ≡ get_or a i 0 → x ≡ be_at a i 1

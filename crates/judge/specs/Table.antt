@@ -1,7 +1,7 @@
 -- THE TABLE OF FAULTS (01, "Numbers we answer with"), rows 1 to 16, and what is to be said of an arrival. Byte i of an arrival is `get_or a i 0`;
 -- a fault that looks at a byte that has not come is shown at a longer arrival, so it is not given. The rows of the main header (1 to 5, and 10
 -- at the first record) are mphr's. Assumes nothing.
-use Rattle.std.specs.Prelude.{◌≡◌, ℕ, zero, suc, ◌+◌, ◌<◌, ◌≤◌, Bool, true, false, ◌&&◌, ◌⊎◌, List, [], ◌∷◌, length, ◌≢◌, slice_index, slice_set}
+use Rattle.std.specs.Prelude.{◌≡◌, ℕ, ◌+◌, ◌<◌, ◌≤◌, true, false, ◌&&◌, ◌⊎◌, List, [], ◌∷◌, length, ◌≢◌, slice_index, slice_set}
 use Rattle.meter.specs.Integer.{be_at}
 use Rattle.record.specs.Header.{is_class, is_group}
 use Rattle.record.specs.Follow.{may_follow}

@@ -6,7 +6,7 @@ use Rattle.record.specs.Header.{is_class}
 use Rattle.text.specs.Field.{count_at}
 use Rattle.mphr.specs.Table.{declared, total, Fine}
 use Rattle.mphr.specs.Table as M
-use Rattle.judge.specs.Table.{Site, site, first, one_more, size_at, Sound, Leads, Fault, main, at, too_long, shown, Judged}
+use Rattle.judge.specs.Table.{Site, site, first, one_more, size_at, Leads, Fault, main, at, too_long, shown, Judged}
 use Rattle.judge.specs.Step.{Kept}
 use Rattle.judge.specs.Stretch.{StretchIs}
 use Rattle.judge.specs.Profile.{Meeting}

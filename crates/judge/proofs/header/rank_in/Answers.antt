@@ -1,8 +1,8 @@
 -- `judge::header::rank_in` meets its contract: the tests in the order of the numbers. Assumes nothing.
 use borrow.Author.Tests.{not-true, not-false}
 use Rattle.std.proofs.Common.{◌≡◌, ℕ, ◌≤◌, true, false, ◌&&◌, List, get_or, sym, ◌∙◌, arith}
-use Rattle.record.specs.Header.{is_class, is_group}
-use Rattle.record.specs.Follow.{may_follow, Ruled}
+use Rattle.record.specs.Header.{is_class}
+use Rattle.record.specs.Follow.{Ruled}
 use Rattle.record.specs.Times.{timed_at}
 use Rattle.judge.specs.Table.{class_at, size_at, Unknown, Misplaced}
 use Rattle.judge.specs.Step.{SixLeft, Sized}

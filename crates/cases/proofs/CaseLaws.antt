@@ -1,7 +1,7 @@
 -- Parts of a case by their lengths, and what a reader's answer says of its number.
 -- Assumes nothing.
 use Rattle.std.proofs.Common.{◌≡◌, ℕ, zero, suc, ◌+◌, ◌-◌, ◌*◌, ◌<◌, ◌≤◌, Bool, true, false, cond, List, [], ◌∷◌, ◌++◌, length, take, drop, sym, refl, ap, ◌∙◌, mul-le-mul, arith, length-append, length-drop, drop_of_length-le, length-take-le}
-use Rattle.io.specs.Counts.{IsPrefixLen}
+use Rattle.cases.specs.Case.{IsPrefixLen}
 use Rattle.calendar.specs.Said.{Said, answer, refusal}
 use Rattle.calendar.specs.declared.Refusal.{Refusal}
 use Rattle.meter.specs.Integer.{be_at, is_width, said_unsigned, unsigned_at}

@@ -1,5 +1,5 @@
 // An answer, flattened, and whether it is the one that a case asks for.
-ghost use Rattle.std.specs.Prelude.{◌≡◌, ◌+◌, ◌≤◌, true, length, replicate};
+ghost use Rattle.std.specs.Prelude.{◌≡◌, ◌+◌, ◌≤◌, true, length, replicate, IfOk};
 ghost use Rattle.cases.specs.Agree.{HasValues, Agrees};
 ghost use Rattle.cases.specs.Answers.{answer_of, values_of, refusedAs, writtenAs};
 
@@ -7,6 +7,8 @@ use crate::input::{byte, word};
 use crate::print::{name_of, number, numbers, say};
 use calendar::Refusal;
 use meter::integer::Written;
+use std::io;
+use std::io::Write;
 
 // Its tag (0 a value, 1 a refusal, and others that a program gives a meaning), a refusal's number, five numbers of which the first is a
 // refusal's place, and whether what was lent is as it should be.
@@ -112,29 +114,31 @@ pub fn agrees(case: &[u8], at: usize, x: Answer, n: usize) -> bool
     has_values(case, at + 8, x, n)
 }
 
-fn print_values(x: Answer) {
+fn print_values<W: Write>(out: &mut W, x: Answer) -> io::Result<()> {
     let mut i: usize = 0;
     while i < 5 {
-        number(x.values[i]);
+        number(out, x.values[i])?;
         i += 1;
     }
+    Ok(())
 }
 
-fn print_answer(x: Answer) {
-    say(b" answer");
-    number(x.tag as u64);
-    number(x.number as u64);
-    print_values(x);
+fn print_answer<W: Write>(out: &mut W, x: Answer) -> io::Result<()> {
+    say(out, b" answer")?;
+    number(out, x.tag as u64)?;
+    number(out, x.number as u64)?;
+    print_values(out, x)?;
     if x.kept {
-        say(b" kept\n");
+        say(out, b" kept\n")
     } else {
-        say(b" lost\n");
+        say(out, b" lost\n")
     }
 }
 
 // Whether the answer agrees; one that does not is printed whole, with the name of the case's kind (of names that have `width` bytes each),
 // `mark` and the case's bytes.
-pub fn judged(
+pub fn judged<W: Write>(
+    out: &mut W,
     names: &[u8],
     width: u8,
     case: &[u8],
@@ -142,17 +146,17 @@ pub fn judged(
     mark: usize,
     x: Answer,
     n: usize,
-) -> bool
-    ensures { result ≡ true → Agrees case.now at x n }
+) -> io::Result<bool>
+    ensures { IfOk result (λ ok. ok ≡ true → Agrees case.now at x n) }
 {
     if agrees(case, at, x, n) {
-        return true;
+        return Ok(true);
     }
-    say(b"DISAGREES ");
-    say(name_of(names, width, byte(case, 0)));
-    number(mark as u64);
-    say(b" case");
-    numbers(case);
-    print_answer(x);
-    false
+    say(out, b"DISAGREES ")?;
+    say(out, name_of(names, width, byte(case, 0)))?;
+    number(out, mark as u64)?;
+    say(out, b" case")?;
+    numbers(out, case)?;
+    print_answer(out, x)?;
+    Ok(false)
 }

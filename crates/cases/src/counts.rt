@@ -3,6 +3,8 @@ ghost use Rattle.std.specs.Prelude.{◌≡◌, replicate};
 ghost use Rattle.cases.specs.Answers.{countsOf, countedAs};
 
 use crate::print::{name_of, number, say};
+use std::io;
+use std::io::Write;
 
 #[derive(Clone, Copy)]
 pub struct Counts {
@@ -32,26 +34,33 @@ pub fn counted(counts: Counts, kind: u8, ok: bool) -> Counts
     next
 }
 
-fn print_count(name: &[u8], agreed: u64, disagreed: u64) {
+fn print_count<W: Write>(out: &mut W, name: &[u8], agreed: u64, disagreed: u64) -> io::Result<()> {
     if name.len() == 0 {
-        return;
+        return Ok(());
     }
-    say(name);
-    number(agreed);
-    say(b" agreed,");
-    number(disagreed);
-    say(b" disagreed\n");
+    say(out, name)?;
+    number(out, agreed)?;
+    say(out, b" agreed,")?;
+    number(out, disagreed)?;
+    say(out, b" disagreed\n")
 }
 
 // A line for each kind from 1 on that has a name, of names that have `width` bytes each.
-pub fn print_counts(counts: Counts, names: &[u8], width: u8) {
+pub fn print_counts<W: Write>(
+    out: &mut W,
+    counts: Counts,
+    names: &[u8],
+    width: u8,
+) -> io::Result<()> {
     let mut kind: usize = 1;
     while kind < 32 {
         print_count(
+            out,
             name_of(names, width, kind as u8),
             counts.agreed[kind],
             counts.disagreed[kind],
-        );
+        )?;
         kind += 1;
     }
+    Ok(())
 }

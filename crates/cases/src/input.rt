@@ -1,24 +1,40 @@
-// Cases are read from a descriptor, standard input or a file, into lent rooms, and taken apart by their bytes.
-ghost use Rattle.std.specs.Prelude.{◌≡◌, true, take, drop, slice_index};
-ghost use Rattle.io.specs.Counts.{IsPrefixLen};
-ghost use Rattle.cases.specs.Case.{number_at, Same};
+// Cases are read from a reader, standard input or a file, into lent rooms, and taken apart by their bytes.
+ghost use Rattle.std.specs.Prelude.{◌≡◌, true, take, drop, slice_index, IfOk};
+ghost use Rattle.cases.specs.Case.{number_at, Same, IsPrefixLen};
 
 use meter::integer::Unsigned;
+use std::io;
+use std::io::Read;
+
+// Reads until the room is full or the input ends: how many bytes came to the room's start.
+fn fill<R: Read>(input: &mut R, room: &mut [u8]) -> io::Result<usize>
+    ensures { IfOk result (λ n. IsPrefixLen n room.new) }
+{
+    let mut done: usize = 0;
+    while done < room.len() {
+        let n = input.read(&mut room[done..])?;
+        if n == 0 {
+            return Ok(done);
+        }
+        done += n;
+    }
+    Ok(done)
+}
 
 // Fills the room; false where the input ends before.
-pub fn read(fd: i32, room: &mut [u8]) -> bool {
+pub fn read<R: Read>(input: &mut R, room: &mut [u8]) -> io::Result<bool> {
     let n = room.len();
-    io::read_full(fd, room) == n
+    Ok(fill(input, room)? == n)
 }
 
 // How many bytes came to the room's start, of n that were to come; none where there is no room for n.
-pub fn read_part(fd: i32, room: &mut [u8], n: usize) -> usize
-    ensures { IsPrefixLen result room.new }
+pub fn read_part<R: Read>(input: &mut R, room: &mut [u8], n: usize) -> io::Result<usize>
+    ensures { IfOk result (λ got. IsPrefixLen got room.new) }
 {
     if n <= room.len() {
-        return io::read_full(fd, &mut room[..n]);
+        return fill(input, &mut room[..n]);
     }
-    0
+    Ok(0)
 }
 
 // The byte of a case at `at`, 0 beyond its end.

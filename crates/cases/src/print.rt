@@ -3,21 +3,21 @@ ghost use Rattle.std.specs.Prelude.{◌≡◌, ◌*◌, take, drop};
 
 use crate::input::part;
 use calendar::Refusal;
-use libc::STDOUT_FILENO;
+use std::io;
+use std::io::Write;
 
-pub fn say(text: &[u8]) {
-    io::write_all(STDOUT_FILENO, text);
+pub fn say<W: Write>(out: &mut W, text: &[u8]) -> io::Result<()> {
+    out.write_all(text)
 }
 
-pub fn number(n: u64) {
-    say(b" ");
-    io::print_decimal(STDOUT_FILENO, n);
+pub fn number<W: Write>(out: &mut W, n: u64) -> io::Result<()> {
+    write!(out, " {n}")
 }
 
-pub fn refusal(r: Refusal) {
-    say(b" refused");
-    number(r.number as u64);
-    number(r.place as u64);
+pub fn refusal<W: Write>(out: &mut W, r: Refusal) -> io::Result<()> {
+    say(out, b" refused")?;
+    number(out, r.number as u64)?;
+    number(out, r.place as u64)
 }
 
 fn wide(b: u8) -> u64 {
@@ -25,12 +25,13 @@ fn wide(b: u8) -> u64 {
 }
 
 // Each byte as a number.
-pub fn numbers(bytes: &[u8]) {
+pub fn numbers<W: Write>(out: &mut W, bytes: &[u8]) -> io::Result<()> {
     let mut i: usize = 0;
     while i < bytes.len() {
-        number(wide(bytes[i]));
+        number(out, wide(bytes[i]))?;
         i += 1;
     }
+    Ok(())
 }
 
 // The name of a kind, of names that have `width` bytes each; empty where it has none.
@@ -50,21 +51,22 @@ fn size_of(v: i64) -> u64 {
     }
 }
 
-pub fn signed(v: i64) {
+pub fn signed<W: Write>(out: &mut W, v: i64) -> io::Result<()> {
     if v < 0 {
-        say(b" -");
+        say(out, b" -")?;
     } else {
-        say(b" ");
+        say(out, b" ")?;
     }
-    io::print_decimal(STDOUT_FILENO, size_of(v));
+    let size = size_of(v);
+    write!(out, "{size}")
 }
 
 // A float's bits, 16 digits of base 16; a NaN has none that are its own.
-pub fn float(x: f64) {
+pub fn float<W: Write>(out: &mut W, x: f64) -> io::Result<()> {
     if x == x {
-        say(b" ");
-        io::print_hex(STDOUT_FILENO, f64::to_bits(x), 16);
+        let bits = f64::to_bits(x);
+        write!(out, " {bits:016x}")
     } else {
-        say(b" nan");
+        say(out, b" nan")
     }
 }

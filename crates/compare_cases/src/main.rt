@@ -5,39 +5,49 @@
 use cases::input::{read, read_part, word};
 use cases::print::{number, refusal, say};
 use compare::cut::Checked;
-use libc::STDIN_FILENO;
+use std::io;
+use std::io::{Read, Write};
 
-fn print_answer(answer: Checked) {
+fn print_answer<W: Write>(out: &mut W, answer: Checked) -> io::Result<()> {
     match answer {
-        Checked::Refused(r) => refusal(r),
-        Checked::Is => say(b" yes"),
+        Checked::Refused(r) => refusal(out, r)?,
+        Checked::Is => say(out, b" yes")?,
         Checked::Not(place) => {
-            say(b" no");
-            number(place as u64);
+            say(out, b" no")?;
+            number(out, place as u64)?;
         }
     }
-    say(b"\n");
+    say(out, b"\n")
 }
 
-fn run_case(head: &[u8], original: &mut [u8], cut: &mut [u8]) {
-    let n = read_part(STDIN_FILENO, original, word(head, 0, 4) as usize);
-    let m = read_part(STDIN_FILENO, cut, word(head, 4, 4) as usize);
-    print_answer(compare::cut::check_cut(&original[..n], &cut[..m]));
+fn run_case<R: Read, W: Write>(
+    input: &mut R,
+    out: &mut W,
+    head: &[u8],
+    original: &mut [u8],
+    cut: &mut [u8],
+) -> io::Result<()> {
+    let n = read_part(input, original, word(head, 0, 4) as usize)?;
+    let m = read_part(input, cut, word(head, 4, 4) as usize)?;
+    print_answer(out, compare::cut::check_cut(&original[..n], &cut[..m]))
 }
 
-fn run_next(head: &[u8]) {
+fn run_next<R: Read, W: Write>(input: &mut R, out: &mut W, head: &[u8]) -> io::Result<()> {
     let mut original = [0u8; 8192];
     let mut cut = [0u8; 8192];
-    run_case(head, &mut original, &mut cut);
+    run_case(input, out, head, &mut original, &mut cut)
 }
 
-fn main() {
+fn main(rt: HostRuntime) -> io::Result<()> {
+    let mut input = rt.stdin();
+    let mut out = rt.stdout();
     let most: usize = 100000;
     for _ in 0..most {
         let mut head = [0u8; 8];
-        if !read(STDIN_FILENO, &mut head) {
-            return;
+        if !read(&mut input, &mut head)? {
+            return Ok(());
         }
-        run_next(&head);
+        run_next(&mut input, &mut out, &head)?;
     }
+    Ok(())
 }

@@ -3,52 +3,54 @@ use cases::print::{number, refusal, say, signed};
 use finish::Finished;
 use judge::arrival::Arrival;
 use meter::general::{General, Moment};
+use std::io;
+use std::io::Write;
 use text::Number;
 
-pub(crate) fn arrival(judged: Arrival) {
+pub(crate) fn arrival<W: Write>(out: &mut W, judged: Arrival) -> io::Result<()> {
     match judged {
         Arrival::Waiting { count, end } => {
-            say(b" waiting");
-            number(count as u64);
-            number(end as u64);
+            say(out, b" waiting")?;
+            number(out, count as u64)?;
+            number(out, end as u64)?;
         }
-        Arrival::Refused(r) => refusal(r),
+        Arrival::Refused(r) => refusal(out, r)?,
     }
-    say(b"\n");
+    say(out, b"\n")
 }
 
-pub(crate) fn finished(judged: Finished) {
+pub(crate) fn finished<W: Write>(out: &mut W, judged: Finished) -> io::Result<()> {
     match judged {
         Finished::Accepted { count } => {
-            say(b" accepted");
-            number(count as u64);
+            say(out, b" accepted")?;
+            number(out, count as u64)?;
         }
-        Finished::Refused(r) => refusal(r),
+        Finished::Refused(r) => refusal(out, r)?,
     }
-    say(b"\n");
+    say(out, b"\n")
 }
 
-pub(crate) fn integer(n: Number) {
+pub(crate) fn integer<W: Write>(out: &mut W, n: Number) -> io::Result<()> {
     match n {
-        Number::Undefined => say(b" undefined"),
-        Number::Whole(v) => signed(v),
+        Number::Undefined => say(out, b" undefined"),
+        Number::Whole(v) => signed(out, v),
     }
 }
 
-fn moment(t: Moment) {
+fn moment<W: Write>(out: &mut W, t: Moment) -> io::Result<()> {
     let d = t.date;
-    number(d.year as u64);
-    number(d.month as u64);
-    number(d.day as u64);
-    number(t.hour as u64);
-    number(t.minute as u64);
-    number(t.second as u64);
-    number(t.milli as u64);
+    number(out, d.year as u64)?;
+    number(out, d.month as u64)?;
+    number(out, d.day as u64)?;
+    number(out, t.hour as u64)?;
+    number(out, t.minute as u64)?;
+    number(out, t.second as u64)?;
+    number(out, t.milli as u64)
 }
 
-pub(crate) fn time(x: General) {
+pub(crate) fn time<W: Write>(out: &mut W, x: General) -> io::Result<()> {
     match x {
-        General::Undefined => say(b" undefined"),
-        General::At(t) => moment(t),
+        General::Undefined => say(out, b" undefined"),
+        General::At(t) => moment(out, t),
     }
 }

@@ -12,19 +12,20 @@ use crate::products::{print_product, print_rows};
 use crate::queries::{print_points, print_queries};
 use cases::input::{part, read, read_part, word};
 use cases::print::say;
-use libc::STDIN_FILENO;
+use std::io;
+use std::io::{Read, Write};
 
-fn print_case(case: &[u8], product: &[u8], due: &[u8]) {
+fn print_case<W: Write>(out: &mut W, case: &[u8], product: &[u8], due: &[u8]) -> io::Result<()> {
     let kind = word(case, 0, 4);
     let number = word(case, 4, 4);
     let asked = word(case, 12, 4) as usize;
     match kind {
-        1 => print_product(number, product),
-        2 => print_rows(number, product, due, false),
-        3 => print_queries(number, product, asked),
-        4 => print_points(number, product),
-        5 => print_rows(number, product, due, true),
-        _ => say(b"unknown case\n"),
+        1 => print_product(out, number, product),
+        2 => print_rows(out, number, product, due, false),
+        3 => print_queries(out, number, product, asked),
+        4 => print_points(out, number, product),
+        5 => print_rows(out, number, product, due, true),
+        _ => say(out, b"unknown case\n"),
     }
 }
 
@@ -38,30 +39,33 @@ fn due_in(case: &[u8]) -> usize {
 }
 
 // False at the end of the input.
-fn run_case() -> bool {
+fn run_case<R: Read, W: Write>(input: &mut R, out: &mut W) -> io::Result<bool> {
     let mut case = [0u8; 16];
-    if !read(STDIN_FILENO, &mut case) {
-        return false;
+    if !read(input, &mut case)? {
+        return Ok(false);
     }
     let mut room = [0u8; 24000];
     let mut due = [0u8; 28000];
     let n = word(&case, 8, 4) as usize;
     let m = due_in(&case);
-    let got = read_part(STDIN_FILENO, &mut room, n);
-    let rows = read_part(STDIN_FILENO, &mut due, m);
+    let got = read_part(input, &mut room, n)?;
+    let rows = read_part(input, &mut due, m)?;
     if got < n || rows < m {
-        say(b"a case is cut short\n");
-        return false;
+        say(out, b"a case is cut short\n")?;
+        return Ok(false);
     }
-    print_case(&case, part(&room, 0, got), part(&due, 0, rows));
-    true
+    print_case(out, &case, part(&room, 0, got), part(&due, 0, rows))?;
+    Ok(true)
 }
 
-fn main() {
+fn main(rt: HostRuntime) -> io::Result<()> {
+    let mut input = rt.stdin();
+    let mut out = rt.stdout();
     let most: usize = 100000;
     for _ in 0..most {
-        if !run_case() {
-            return;
+        if !run_case(&mut input, &mut out)? {
+            return Ok(());
         }
     }
+    Ok(())
 }

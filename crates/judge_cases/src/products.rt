@@ -8,6 +8,8 @@ use cases::print::say;
 use finish::{Finished, rows as list_rows, verdict};
 use judge::arrival::{Arrival, judge_arrival};
 use level0::judge_level0;
+use std::io;
+use std::io::Write;
 
 // How many places there are for rows, and what they hold before the judge is asked: no product has a record there.
 const PLACES: usize = 1024;
@@ -31,25 +33,26 @@ fn same(a: Arrival, b: Arrival) -> bool {
     }
 }
 
-fn print_at(n: usize, judged: Arrival) {
-    say(b"at");
-    print::number(n as u64);
-    answers::arrival(judged);
+fn print_at<W: Write>(out: &mut W, n: usize, judged: Arrival) -> io::Result<()> {
+    say(out, b"at")?;
+    print::number(out, n as u64)?;
+    answers::arrival(out, judged)
 }
 
 // The answer to the empty arrival, and each that differs from the answer at one byte less.
-fn print_arrivals(bytes: &[u8]) {
+fn print_arrivals<W: Write>(out: &mut W, bytes: &[u8]) -> io::Result<()> {
     let mut last = judge_arrival(part(bytes, 0, 0));
-    print_at(0, last);
+    print_at(out, 0, last)?;
     let mut n: usize = 0;
     while n < bytes.len() {
         n += 1;
         let next = judge_arrival(part(bytes, 0, n));
         if !same(last, next) {
-            print_at(n, next);
+            print_at(out, n, next)?;
         }
         last = next;
     }
+    Ok(())
 }
 
 fn list_into(bytes: &[u8], rows: &mut [[u32; 7]], level0: bool) -> Finished {
@@ -70,13 +73,13 @@ fn judge_into(bytes: &[u8], rows: &mut [[u32; 7]], room: usize, level0: bool) ->
     })
 }
 
-pub(crate) fn print_product(number: u64, bytes: &[u8]) {
-    say(b"product");
-    print::number(number);
-    print::number(bytes.len() as u64);
-    say(b"\nfinished");
-    answers::finished(verdict(bytes));
-    print_arrivals(bytes);
+pub(crate) fn print_product<W: Write>(out: &mut W, number: u64, bytes: &[u8]) -> io::Result<()> {
+    say(out, b"product")?;
+    print::number(out, number)?;
+    print::number(out, bytes.len() as u64)?;
+    say(out, b"\nfinished")?;
+    answers::finished(out, verdict(bytes))?;
+    print_arrivals(out, bytes)
 }
 
 fn wide(x: u32) -> u64 {
@@ -121,30 +124,44 @@ fn due_of(judged: Finished, n: usize) -> usize {
 }
 
 // The answer for this room, and `lost` where a place does not hold what is due.
-fn print_room(number: u64, bytes: &[u8], due: &[u8], room: usize, level0: bool) {
+fn print_room<W: Write>(
+    out: &mut W,
+    number: u64,
+    bytes: &[u8],
+    due: &[u8],
+    room: usize,
+    level0: bool,
+) -> io::Result<()> {
     if level0 {
-        say(b"level0");
+        say(out, b"level0")?;
     } else {
-        say(b"rows");
+        say(out, b"rows")?;
     }
-    print::number(number);
-    print::number(room as u64);
+    print::number(out, number)?;
+    print::number(out, room as u64)?;
     let mut rows = [[UNTOUCHED; 7]; PLACES];
     let judged = judge_into(bytes, &mut rows, room, level0);
-    answers::finished(judged);
+    answers::finished(out, judged)?;
     if !holds(&rows, part(due, 0, due_of(judged, due.len()))) {
-        say(b"lost\n");
+        say(out, b"lost\n")?;
     }
+    Ok(())
 }
 
 // The rows of a product, lent no room, one place less than it has records, as many, one more and four more; `due` has 28 bytes a row.
-pub(crate) fn print_rows(number: u64, bytes: &[u8], due: &[u8], level0: bool) {
+pub(crate) fn print_rows<W: Write>(
+    out: &mut W,
+    number: u64,
+    bytes: &[u8],
+    due: &[u8],
+    level0: bool,
+) -> io::Result<()> {
     let count = due.len() / 28;
-    print_room(number, bytes, due, 0, level0);
+    print_room(out, number, bytes, due, 0, level0)?;
     if 0 < count {
-        print_room(number, bytes, due, count - 1, level0);
+        print_room(out, number, bytes, due, count - 1, level0)?;
     }
-    print_room(number, bytes, due, count, level0);
-    print_room(number, bytes, due, count + 1, level0);
-    print_room(number, bytes, due, count + 4, level0);
+    print_room(out, number, bytes, due, count, level0)?;
+    print_room(out, number, bytes, due, count + 1, level0)?;
+    print_room(out, number, bytes, due, count + 4, level0)
 }

@@ -5,111 +5,118 @@ use cases::print;
 use cases::print::say;
 use query::{FieldAnswer, NumberAnswer, PointAnswer, RecordAnswer, TimeAnswer};
 use record::header::Header;
+use std::io;
+use std::io::Write;
 
 // No record and no field has this number.
 const LARGEST: usize = 0xffff_ffff_ffff_ffff;
 
-fn print_header(start: usize, h: Header) {
-    print::number(start as u64);
-    print::number(h.class as u64);
-    print::number(h.group as u64);
-    print::number(h.subclass as u64);
-    print::number(h.version as u64);
-    print::number(h.size as u64);
+fn print_header<W: Write>(out: &mut W, start: usize, h: Header) -> io::Result<()> {
+    print::number(out, start as u64)?;
+    print::number(out, h.class as u64)?;
+    print::number(out, h.group as u64)?;
+    print::number(out, h.subclass as u64)?;
+    print::number(out, h.version as u64)?;
+    print::number(out, h.size as u64)
 }
 
-fn print_record(bytes: &[u8], k: usize) {
-    say(b"record");
-    print::number(k as u64);
+fn print_record<W: Write>(out: &mut W, bytes: &[u8], k: usize) -> io::Result<()> {
+    say(out, b"record")?;
+    print::number(out, k as u64)?;
     match query::record_at(bytes, k) {
-        RecordAnswer::Record { start, header } => print_header(start, header),
-        RecordAnswer::Refused(r) => print::refusal(r),
+        RecordAnswer::Record { start, header } => print_header(out, start, header)?,
+        RecordAnswer::Refused(r) => print::refusal(out, r)?,
     }
-    say(b"\n");
+    say(out, b"\n")
 }
 
 // The records below `asked`.
-fn print_records(bytes: &[u8], asked: usize) {
+fn print_records<W: Write>(out: &mut W, bytes: &[u8], asked: usize) -> io::Result<()> {
     for k in 0..asked {
-        print_record(bytes, k);
+        print_record(out, bytes, k)?;
     }
-    print_record(bytes, LARGEST);
+    print_record(out, bytes, LARGEST)
 }
 
-fn print_number_field(bytes: &[u8], k: usize) {
-    say(b" number");
+fn print_number_field<W: Write>(out: &mut W, bytes: &[u8], k: usize) -> io::Result<()> {
+    say(out, b" number")?;
     match query::number_field(bytes, k) {
-        NumberAnswer::Number(n) => answers::integer(n),
-        NumberAnswer::Refused(r) => print::refusal(r),
+        NumberAnswer::Number(n) => answers::integer(out, n),
+        NumberAnswer::Refused(r) => print::refusal(out, r),
     }
 }
 
-fn print_time(answer: TimeAnswer) {
+fn print_time<W: Write>(out: &mut W, answer: TimeAnswer) -> io::Result<()> {
     match answer {
-        TimeAnswer::Time(t) => answers::time(t),
-        TimeAnswer::Refused(r) => print::refusal(r),
+        TimeAnswer::Time(t) => answers::time(out, t),
+        TimeAnswer::Refused(r) => print::refusal(out, r),
     }
 }
 
-fn print_text_field(bytes: &[u8], k: usize) {
-    say(b" text");
+fn print_text_field<W: Write>(out: &mut W, bytes: &[u8], k: usize) -> io::Result<()> {
+    say(out, b" text")?;
     match query::text_field(bytes, k) {
         FieldAnswer::Part { start, width } => {
-            print::number(start as u64);
-            print::number(width as u64);
+            print::number(out, start as u64)?;
+            print::number(out, width as u64)
         }
-        FieldAnswer::Refused(r) => print::refusal(r),
+        FieldAnswer::Refused(r) => print::refusal(out, r),
     }
 }
 
-fn print_field(bytes: &[u8], k: usize) {
-    say(b"field");
-    print::number(k as u64);
-    print_number_field(bytes, k);
-    say(b" time");
-    print_time(query::time_field(bytes, k));
-    say(b" long");
-    print_time(query::long_time_field(bytes, k));
-    print_text_field(bytes, k);
-    say(b"\n");
+fn print_field<W: Write>(out: &mut W, bytes: &[u8], k: usize) -> io::Result<()> {
+    say(out, b"field")?;
+    print::number(out, k as u64)?;
+    print_number_field(out, bytes, k)?;
+    say(out, b" time")?;
+    print_time(out, query::time_field(bytes, k))?;
+    say(out, b" long")?;
+    print_time(out, query::long_time_field(bytes, k))?;
+    print_text_field(out, bytes, k)?;
+    say(out, b"\n")
 }
 
 // The 72 fields and the first number that none has.
-fn print_fields(bytes: &[u8]) {
+fn print_fields<W: Write>(out: &mut W, bytes: &[u8]) -> io::Result<()> {
     for k in 0..73 {
-        print_field(bytes, k);
+        print_field(out, bytes, k)?;
     }
-    print_field(bytes, LARGEST);
+    print_field(out, bytes, LARGEST)
 }
 
-pub(crate) fn print_queries(number: u64, bytes: &[u8], asked: usize) {
-    say(b"queries");
-    print::number(number);
-    print::number(bytes.len() as u64);
-    say(b"\n");
-    print_records(bytes, asked);
-    print_fields(bytes);
+pub(crate) fn print_queries<W: Write>(
+    out: &mut W,
+    number: u64,
+    bytes: &[u8],
+    asked: usize,
+) -> io::Result<()> {
+    say(out, b"queries")?;
+    print::number(out, number)?;
+    print::number(out, bytes.len() as u64)?;
+    say(out, b"\n")?;
+    print_records(out, bytes, asked)?;
+    print_fields(out, bytes)
 }
 
-fn print_answer(answer: PointAnswer) {
+fn print_answer<W: Write>(out: &mut W, answer: PointAnswer) -> io::Result<()> {
     match answer {
         PointAnswer::Point(p) => {
-            say(b" point");
-            print::float(p.latitude);
-            print::float(p.longitude);
+            say(out, b" point")?;
+            print::float(out, p.latitude)?;
+            print::float(out, p.longitude)?;
         }
-        PointAnswer::Missing => say(b" missing"),
-        PointAnswer::Refused(r) => print::refusal(r),
+        PointAnswer::Missing => say(out, b" missing")?,
+        PointAnswer::Refused(r) => print::refusal(out, r)?,
     }
-    say(b"\n");
+    say(out, b"\n")
 }
 
 // The points of the product's start and of its end.
-pub(crate) fn print_points(number: u64, bytes: &[u8]) {
-    say(b"start");
-    print::number(number);
-    print_answer(query::ground_point(bytes, false));
-    say(b"end");
-    print::number(number);
-    print_answer(query::ground_point(bytes, true));
+pub(crate) fn print_points<W: Write>(out: &mut W, number: u64, bytes: &[u8]) -> io::Result<()> {
+    say(out, b"start")?;
+    print::number(out, number)?;
+    print_answer(out, query::ground_point(bytes, false))?;
+    say(out, b"end")?;
+    print::number(out, number)?;
+    print_answer(out, query::ground_point(bytes, true))
 }

@@ -5,4 +5,4 @@ use Rattle.list.specs.declared.Input.TheVariants.{Bytes, Failed}
 
 abbrev pub ReadIs : Input → ℕ → Type 0
 ReadIs (Bytes n) most = n ≤ most
-ReadIs Failed most = Unit
+ReadIs (Failed e) most = Unit

@@ -1,13 +1,17 @@
 // Prints the listing of the product in the file that its argument names, or on standard input; a refusal is one line.
-// What cannot be read or written is a line on standard error: a program has no exit status here (docs/DECISIONS.md, F30).
+// What cannot be read or written is a line on standard error, and the status is 0 (docs/DECISIONS.md, F30); only where that line cannot be
+// written `main` ends with the error.
 #![tactic(auto)]
 
 ghost use Rattle.std.specs.Prelude.{length};
 ghost use Rattle.list.specs.Reading.{ReadIs};
 
 use calendar::Refusal;
-use libc::{STDERR_FILENO, STDIN_FILENO, STDOUT_FILENO};
 use listing::Listed;
+use std::fs::File;
+use std::io::{Read, Write};
+use std::rt::Files;
+use std::{env, io};
 
 const HELP: [u8; 602] = *b"\
 usage: list [FILE]\n\
@@ -19,24 +23,22 @@ product of any size there is ./warpladle list FILE, and for programs libwarpladl
 whose wl_rows gives these numbers of each record.\n\
 README.md has the numbers, the places, the classes and the groups.\n";
 
-#[derive(Clone, Copy)]
+#[derive(Drop)]
 pub enum Input {
     Bytes(usize),
-    Failed,
+    Failed(io::Error),
 }
 
 // Reads until the bytes are full or the input ends.
-fn read_input(fd: i32, bytes: &mut [u8]) -> Input
+fn read_input<F: Read>(input: &mut F, bytes: &mut [u8]) -> Input
     ensures { ReadIs result (length bytes.new) }
 {
     let mut done: usize = 0;
     while done < bytes.len() {
-        let rest = &mut bytes[done..];
-        let got = libc::read(fd, rest);
-        if got < 0 {
-            return Input::Failed;
-        }
-        let more = io::count(got, rest);
+        let more = match input.read(&mut bytes[done..]) {
+            Ok(n) => n,
+            Err(e) => return Input::Failed(e),
+        };
         if more == 0 {
             return Input::Bytes(done);
         }
@@ -45,47 +47,49 @@ fn read_input(fd: i32, bytes: &mut [u8]) -> Input
     Input::Bytes(done)
 }
 
-fn print(bytes: &[u8]) {
-    if !io::write_all(STDOUT_FILENO, bytes) {
-        os::fail(b"list: standard output");
+fn fail<R: Eprint>(rt: &R, what: &str, e: io::Error) -> io::Result<()> {
+    eprintln!(rt; "{what}: {e}")
+}
+
+fn print<R: Print + Eprint>(rt: &R, bytes: &[u8]) -> io::Result<()> {
+    match io::writer(rt).write_all(bytes) {
+        Ok(()) => Ok(()),
+        Err(e) => fail(rt, "list: standard output", e),
     }
 }
 
-// The room is enough for each refusal (listing's law `line-enough`).
-fn print_refusal(r: Refusal) {
+// The room is enough for each refusal (listing's law `line_enough`).
+fn print_refusal<R: Print + Eprint>(rt: &R, r: Refusal) -> io::Result<()> {
     let mut room = [0u8; 64];
     match listing::refusal_line(r, &mut room) {
-        Listed::Bytes(n) => print(&room[..n]),
-        Listed::Refused(_) => {}
+        Listed::Bytes(n) => print(rt, &room[..n]),
+        Listed::Refused(_) => Ok(()),
     }
 }
 
-// The room is enough for each product that is listed (listing's law `never-18`).
-fn print_list(bytes: &[u8]) {
+// The room is enough for each product that is listed (listing's law `never_18`).
+fn print_list<R: Print + Eprint>(rt: &R, bytes: &[u8]) -> io::Result<()> {
     let mut room = [0u8; 131072];
     match listing::list_product(bytes, &mut room) {
-        Listed::Bytes(n) => print(&room[..n]),
-        Listed::Refused(r) => print_refusal(r),
+        Listed::Bytes(n) => print(rt, &room[..n]),
+        Listed::Refused(r) => print_refusal(rt, r),
     }
 }
 
 // One byte more than the listing takes, so that it sees where there are too many.
-fn list_input(fd: i32, name: &[u8]) {
+fn list_input<R: Print + Eprint, F: Read>(rt: &R, input: &mut F, name: &str) -> io::Result<()> {
     let mut bytes = [0u8; 65537];
-    match read_input(fd, &mut bytes) {
-        Input::Bytes(n) => print_list(&bytes[..n]),
-        Input::Failed => os::fail(name),
+    match read_input(input, &mut bytes) {
+        Input::Bytes(n) => print_list(rt, &bytes[..n]),
+        Input::Failed(e) => fail(rt, name, e),
     }
 }
 
-fn list_file(name: &[u8]) {
-    let fd = os::open_read(name);
-    if fd < 0 {
-        os::fail(name);
-        return;
+fn list_file<R: Files + Print + Eprint>(rt: &R, name: &str) -> io::Result<()> {
+    match File::open(rt, name) {
+        Ok(mut file) => list_input(rt, &mut file, name),
+        Err(e) => fail(rt, name, e),
     }
-    list_input(fd, name);
-    libc::close(fd);
 }
 
 fn is_help(word: &[u8]) -> bool {
@@ -103,25 +107,19 @@ fn is_help(word: &[u8]) -> bool {
     true
 }
 
-fn main() {
-    let count = os::arg_count();
-    if count < 2 {
-        list_input(STDIN_FILENO, b"standard input");
-        return;
+fn main(rt: HostRuntime) -> io::Result<()> {
+    let mut words = match env::args(&rt) {
+        Ok(words) => words.skip(1),
+        Err(e) => return fail(&rt, "list: the file's name", e),
+    };
+    let Some(name) = words.next() else {
+        return list_input(&rt, &mut rt.stdin(), "standard input");
+    };
+    if words.next().is_some() {
+        return rt.eprintln("list: one file at most");
     }
-    if count > 2 {
-        io::write_all(STDERR_FILENO, b"list: one file at most\n");
-        return;
+    if is_help(name.as_bytes()) {
+        return print(&rt, &HELP);
     }
-    let mut name = io::buffer();
-    let length = os::arg(1, &mut name);
-    if os::errno() != 0 {
-        os::fail(b"list: the file's name");
-        return;
-    }
-    if is_help(&name[..length]) {
-        print(&HELP);
-        return;
-    }
-    list_file(&name[..length]);
+    list_file(&rt, name.as_str())
 }

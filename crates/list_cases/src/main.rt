@@ -6,8 +6,9 @@
 use calendar::Refusal;
 use cases::input::{fitting, part, read, read_part, word};
 use cases::print::{number, say};
-use libc::STDIN_FILENO;
 use listing::Listed;
+use std::io;
+use std::io::{Read, Write};
 
 const FILL: u8 = 0xaa;
 
@@ -24,57 +25,66 @@ fn is_kept(room: &[u8], n: usize) -> bool {
 }
 
 // The n bytes at the room's start, where the others are kept.
-fn print_part(room: &[u8], n: usize) {
+fn print_part<W: Write>(out: &mut W, room: &[u8], n: usize) -> io::Result<()> {
     if n > room.len() {
-        say(b"beyond the room\n");
+        say(out, b"beyond the room\n")?;
     }
     if !is_kept(room, n) {
-        say(b"lost\n");
+        say(out, b"lost\n")?;
     }
-    say(part(room, 0, n));
+    say(out, part(room, 0, n))
 }
 
-fn print_refusal(r: Refusal, room: &mut [u8]) {
+fn print_refusal<W: Write>(out: &mut W, r: Refusal, room: &mut [u8]) -> io::Result<()> {
     if !is_kept(room, 0) {
-        say(b"lost\n");
+        say(out, b"lost\n")?;
     }
     match listing::refusal_line(r, room) {
-        Listed::Bytes(n) => print_part(room, n),
+        Listed::Bytes(n) => print_part(out, room, n),
         Listed::Refused(q) => {
-            say(b"no room for a line:");
-            number(q.place as u64);
-            say(b"\n");
-            print_part(room, 0);
+            say(out, b"no room for a line:")?;
+            number(out, q.place as u64)?;
+            say(out, b"\n")?;
+            print_part(out, room, 0)
         }
     }
 }
 
-fn list_into(bytes: &[u8], room: &mut [u8]) {
+fn list_into<W: Write>(out: &mut W, bytes: &[u8], room: &mut [u8]) -> io::Result<()> {
     match listing::list_product(bytes, room) {
-        Listed::Bytes(n) => print_part(room, n),
-        Listed::Refused(r) => print_refusal(r, room),
+        Listed::Bytes(n) => print_part(out, room, n),
+        Listed::Refused(r) => print_refusal(out, r, room),
     }
 }
 
-fn run_case(head: &[u8], bytes: &mut [u8], room: &mut [u8]) {
-    let n = read_part(STDIN_FILENO, bytes, word(head, 0, 4) as usize);
+fn run_case<R: Read, W: Write>(
+    input: &mut R,
+    out: &mut W,
+    head: &[u8],
+    bytes: &mut [u8],
+    room: &mut [u8],
+) -> io::Result<()> {
+    let n = read_part(input, bytes, word(head, 0, 4) as usize)?;
     let m = fitting(word(head, 4, 4) as usize, room);
-    list_into(&bytes[..n], &mut room[..m]);
+    list_into(out, &bytes[..n], &mut room[..m])
 }
 
-fn run_in_rooms(head: &[u8]) {
+fn run_in_rooms<R: Read, W: Write>(input: &mut R, out: &mut W, head: &[u8]) -> io::Result<()> {
     let mut bytes = [0u8; 65537];
     let mut room = [FILL; 131072];
-    run_case(head, &mut bytes, &mut room);
+    run_case(input, out, head, &mut bytes, &mut room)
 }
 
-fn main() {
+fn main(rt: HostRuntime) -> io::Result<()> {
+    let mut input = rt.stdin();
+    let mut out = rt.stdout();
     let most: usize = 100000;
     for _ in 0..most {
         let mut head = [0u8; 8];
-        if !read(STDIN_FILENO, &mut head) {
-            return;
+        if !read(&mut input, &mut head)? {
+            return Ok(());
         }
-        run_in_rooms(&head);
+        run_in_rooms(&mut input, &mut out, &head)?;
     }
+    Ok(())
 }

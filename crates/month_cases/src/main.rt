@@ -5,39 +5,40 @@
 use calendar::Refusal;
 use cases::input::{byte, read, read_part, word};
 use cases::print::{number, refusal, say};
-use libc::STDIN_FILENO;
 use month::report::{Added, Merged};
+use std::io;
+use std::io::{Read, Write};
 
-fn print_own(r: Refusal) {
-    say(b" added");
-    number(r.number as u64);
-    number(r.place as u64);
+fn print_own<W: Write>(out: &mut W, r: Refusal) -> io::Result<()> {
+    say(out, b" added")?;
+    number(out, r.number as u64)?;
+    number(out, r.place as u64)
 }
 
-fn print_added(answer: Added) {
+fn print_added<W: Write>(out: &mut W, answer: Added) -> io::Result<()> {
     match answer {
-        Added::Accepted => say(b" added 0 0"),
-        Added::Tallied(r) => print_own(r),
-        Added::Refused(r) => refusal(r),
+        Added::Accepted => say(out, b" added 0 0")?,
+        Added::Tallied(r) => print_own(out, r)?,
+        Added::Refused(r) => refusal(out, r)?,
     }
-    say(b"\n");
+    say(out, b"\n")
 }
 
-fn print_merged(answer: Merged) {
+fn print_merged<W: Write>(out: &mut W, answer: Merged) -> io::Result<()> {
     match answer {
-        Merged::Done => say(b" merged"),
-        Merged::Refused(r) => refusal(r),
+        Merged::Done => say(out, b" merged")?,
+        Merged::Refused(r) => refusal(out, r)?,
     }
-    say(b"\n");
+    say(out, b"\n")
 }
 
-fn print_report(report: &[u64; 38]) {
+fn print_report<W: Write>(out: &mut W, report: &[u64; 38]) -> io::Result<()> {
     let mut i: usize = 0;
     while i < 38 {
-        number(report[i]);
+        number(out, report[i])?;
         i += 1;
     }
-    say(b"\n");
+    say(out, b"\n")
 }
 
 // A report of 38 numbers of 8 bytes each.
@@ -66,34 +67,58 @@ fn exchange(report: &mut [u64; 38], other: &mut [u64; 38]) {
     *other = kept;
 }
 
-fn run_order(order: u8, times: u64, data: &[u8], report: &mut [u64; 38], other: &mut [u64; 38]) {
+fn run_order<W: Write>(
+    out: &mut W,
+    order: u8,
+    times: u64,
+    data: &[u8],
+    report: &mut [u64; 38],
+    other: &mut [u64; 38],
+) -> io::Result<()> {
     match order {
         0 => set_report(report, data),
         1 => {
             add_times(report, data, times);
         }
-        2 => print_added(add_times(report, data, times)),
-        3 => print_report(report),
+        2 => print_added(out, add_times(report, data, times))?,
+        3 => print_report(out, report)?,
         4 => exchange(report, other),
-        _ => print_merged(month::report::merge(report, other)),
+        _ => print_merged(out, month::report::merge(report, other))?,
     }
+    Ok(())
 }
 
-fn run_next(head: &[u8], report: &mut [u64; 38], other: &mut [u64; 38]) {
+fn run_next<R: Read, W: Write>(
+    input: &mut R,
+    out: &mut W,
+    head: &[u8],
+    report: &mut [u64; 38],
+    other: &mut [u64; 38],
+) -> io::Result<()> {
     let mut data = [0u8; 8192];
-    let n = read_part(STDIN_FILENO, &mut data, word(head, 5, 4) as usize);
-    run_order(byte(head, 0), word(head, 1, 4), &data[..n], report, other);
+    let n = read_part(input, &mut data, word(head, 5, 4) as usize)?;
+    run_order(
+        out,
+        byte(head, 0),
+        word(head, 1, 4),
+        &data[..n],
+        report,
+        other,
+    )
 }
 
-fn main() {
+fn main(rt: HostRuntime) -> io::Result<()> {
+    let mut input = rt.stdin();
+    let mut out = rt.stdout();
     let mut report = [0u64; 38];
     let mut other = [0u64; 38];
     let most: usize = 100000;
     for _ in 0..most {
         let mut head = [0u8; 9];
-        if !read(STDIN_FILENO, &mut head) {
-            return;
+        if !read(&mut input, &mut head)? {
+            return Ok(());
         }
-        run_next(&head, &mut report, &mut other);
+        run_next(&mut input, &mut out, &head, &mut report, &mut other)?;
     }
+    Ok(())
 }

@@ -8,12 +8,13 @@ use calendar::Date;
 use cases::answer::{Answer, judged, refused, value, written};
 use cases::counts::{Counts, counted, none, print_counts};
 use cases::input::{byte, fitting, is_same, part, read, word};
-use libc::STDIN_FILENO;
 use meter::general::{General, Moment};
 use meter::integer::{Signed, Written};
 use mphr::faults::HeaderFault;
 use mphr::layout::{FieldPlace, Place};
 use mphr::names::FieldNumber;
+use std::io;
+use std::io::{Read, Write};
 use text::{Kind, Number};
 
 // The names of the kinds, 20 bytes each; the last is for the prefixes of headers.
@@ -113,69 +114,87 @@ fn answered(case: &[u8]) -> Answer {
 }
 
 // The answer is the one that stands in the case from `at` on; n is the length of a header's prefix, else 0.
-fn agreed(case: &[u8], at: usize, x: Answer, n: usize) -> bool {
+fn agreed<W: Write>(out: &mut W, case: &[u8], at: usize, x: Answer, n: usize) -> io::Result<bool> {
     let names = NAMES;
-    judged(&names, 20, case, at, n, x, 3)
+    judged(out, &names, 20, case, at, n, x, 3)
 }
 
 // ---- headers: the refusal at 80 is due from the arrival length at 4 on, and before it the answer at 112
-fn prefix_agrees(case: &[u8], header: &[u8], n: usize) -> bool {
+fn prefix_agrees<W: Write>(out: &mut W, case: &[u8], header: &[u8], n: usize) -> io::Result<bool> {
     let x = match mphr::faults::header_fault(part(header, 0, n)) {
         HeaderFault::Clean => value(0, 0, 0),
         HeaderFault::Refused(r) => refused(r, true),
     };
     if (n as u64) < word(case, 4, 4) {
-        return agreed(case, 112, x, n);
+        return agreed(out, case, 112, x, n);
     }
-    agreed(case, 80, x, n)
+    agreed(out, case, 80, x, n)
 }
 
 // Every prefix of the header, the empty one and the whole one too.
-fn with_prefixes(counts: Counts, case: &[u8], header: &[u8]) -> Counts {
+fn with_prefixes<W: Write>(
+    out: &mut W,
+    counts: Counts,
+    case: &[u8],
+    header: &[u8],
+) -> io::Result<Counts> {
     let mut next = counts;
     let most = word(case, 8, 4);
     for n in 0..3308 {
         if most < n as u64 {
-            return next;
+            return Ok(next);
         }
-        next = counted(next, 7, prefix_agrees(case, header, n));
+        next = counted(next, 7, prefix_agrees(out, case, header, n)?);
     }
-    next
+    Ok(next)
 }
 
-fn with_header(counts: Counts, case: &[u8]) -> Counts {
+fn with_header<R: Read, W: Write>(
+    input: &mut R,
+    out: &mut W,
+    counts: Counts,
+    case: &[u8],
+) -> io::Result<Counts> {
     let mut header = [0u8; 3307];
-    if !read(STDIN_FILENO, &mut header) {
-        return counted(counts, 6, false);
+    if !read(input, &mut header)? {
+        return Ok(counted(counts, 6, false));
     }
     let before = counts.disagreed[7];
-    let next = with_prefixes(counts, case, &header);
+    let next = with_prefixes(out, counts, case, &header)?;
     let ok = next.disagreed[7] == before;
-    counted(next, 6, ok)
+    Ok(counted(next, 6, ok))
 }
 
-fn with_case(counts: Counts, case: &[u8]) -> Counts {
+fn with_case<R: Read, W: Write>(
+    input: &mut R,
+    out: &mut W,
+    counts: Counts,
+    case: &[u8],
+) -> io::Result<Counts> {
     let kind = byte(case, 0);
     if kind == 6 {
-        return with_header(counts, case);
+        return with_header(input, out, counts, case);
     }
-    counted(counts, kind, agreed(case, 80, answered(case), 0))
+    Ok(counted(counts, kind, agreed(out, case, 80, answered(case), 0)?))
 }
 
-fn run_all() -> Counts {
+fn run_all<R: Read, W: Write>(input: &mut R, out: &mut W) -> io::Result<Counts> {
     let mut counts = none();
     let most: usize = 100000;
     for _ in 0..most {
         let mut case = [0u8; 216];
-        if !read(STDIN_FILENO, &mut case) {
-            return counts;
+        if !read(input, &mut case)? {
+            return Ok(counts);
         }
-        counts = with_case(counts, &case);
+        counts = with_case(input, out, counts, &case)?;
     }
-    counts
+    Ok(counts)
 }
 
-fn main() {
+fn main(rt: HostRuntime) -> io::Result<()> {
+    let mut input = rt.stdin();
+    let mut out = rt.stdout();
     let names = NAMES;
-    print_counts(run_all(), &names, 20);
+    let counts = run_all(&mut input, &mut out)?;
+    print_counts(&mut out, counts, &names, 20)
 }

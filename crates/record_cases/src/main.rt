@@ -6,11 +6,12 @@
 use cases::answer::{Answer, judged, refused, values, written};
 use cases::counts::{Counts, counted, none, print_counts};
 use cases::input::{byte, fitting, is_same, part, read, word};
-use libc::STDIN_FILENO;
 use meter::integer::Written;
 use meter::time::Time;
 use record::header::{Header, HeaderRead};
 use record::pointer::{Pointer, PointerRead};
+use std::io;
+use std::io::{Read, Write};
 
 // The names of the kinds, 16 bytes each.
 const NAMES: [u8; 96] = *b"\
@@ -153,30 +154,42 @@ fn values_of(kind: u8) -> usize {
     }
 }
 
-fn with_case(counts: Counts, case: &[u8]) -> Counts {
+fn with_case<W: Write>(out: &mut W, counts: Counts, case: &[u8]) -> io::Result<Counts> {
     let names = NAMES;
     let kind = byte(case, 0);
-    counted(
+    Ok(counted(
         counts,
         kind,
-        judged(&names, 16, case, 48, 0, answered(case), values_of(kind)),
-    )
+        judged(
+            out,
+            &names,
+            16,
+            case,
+            48,
+            0,
+            answered(case),
+            values_of(kind),
+        )?,
+    ))
 }
 
-fn run_all() -> Counts {
+fn run_all<R: Read, W: Write>(input: &mut R, out: &mut W) -> io::Result<Counts> {
     let mut counts = none();
     let most: usize = 100000;
     for _ in 0..most {
         let mut case = [0u8; 96];
-        if !read(STDIN_FILENO, &mut case) {
-            return counts;
+        if !read(input, &mut case)? {
+            return Ok(counts);
         }
-        counts = with_case(counts, &case);
+        counts = with_case(out, counts, &case)?;
     }
-    counts
+    Ok(counts)
 }
 
-fn main() {
+fn main(rt: HostRuntime) -> io::Result<()> {
+    let mut input = rt.stdin();
+    let mut out = rt.stdout();
     let names = NAMES;
-    print_counts(run_all(), &names, 16);
+    let counts = run_all(&mut input, &mut out)?;
+    print_counts(&mut out, counts, &names, 16)
 }

@@ -5,57 +5,76 @@
 
 use cases::input::{byte, fitting, is_same, read, read_part, word};
 use cases::print::{number, refusal, say};
-use libc::STDIN_FILENO;
 use meter::integer::Written;
 use replay::run::Replayed;
+use std::io;
+use std::io::{Read, Write};
 
 const FILL: u8 = 0xaa;
 
-fn print_replayed(answer: Replayed) {
+fn print_replayed<W: Write>(out: &mut W, answer: Replayed) -> io::Result<()> {
     match answer {
-        Replayed::Refused(r) => refusal(r),
-        Replayed::Same => say(b" none"),
+        Replayed::Refused(r) => refusal(out, r)?,
+        Replayed::Same => say(out, b" none")?,
         Replayed::Differs(part) => {
-            say(b" part");
-            number(part as u64);
+            say(out, b" part")?;
+            number(out, part as u64)?;
         }
     }
-    say(b"\n");
+    say(out, b"\n")
 }
 
-fn print_written(answer: Written) {
+fn print_written<W: Write>(out: &mut W, answer: Written) -> io::Result<()> {
     match answer {
         Written::Bytes(n) => {
-            say(b" record");
-            number(n as u64);
+            say(out, b" record")?;
+            number(out, n as u64)
         }
-        Written::Refused(r) => refusal(r),
+        Written::Refused(r) => refusal(out, r),
     }
 }
 
-fn write_into(lengths: &[u32], product: &[u8], room: &mut [u8], due: &[u8]) {
-    print_written(replay::write::write_record(lengths, product, room));
+fn write_into<W: Write>(
+    out: &mut W,
+    lengths: &[u32],
+    product: &[u8],
+    room: &mut [u8],
+    due: &[u8],
+) -> io::Result<()> {
+    print_written(out, replay::write::write_record(lengths, product, room))?;
     if !is_same(room, due, 0) {
-        say(b" lost");
+        say(out, b" lost")?;
     }
-    say(b"\n");
+    say(out, b"\n")
 }
 
 // The next room: its size, and what it is to hold afterwards.
-fn lend(lengths: &[u32], product: &[u8], room: &mut [u8], due: &mut [u8]) {
+fn lend<R: Read, W: Write>(
+    input: &mut R,
+    out: &mut W,
+    lengths: &[u32],
+    product: &[u8],
+    room: &mut [u8],
+    due: &mut [u8],
+) -> io::Result<()> {
     let mut size = [0u8; 4];
-    if !read(STDIN_FILENO, &mut size) {
-        return;
+    if !read(input, &mut size)? {
+        return Ok(());
     }
-    let m = read_part(STDIN_FILENO, due, word(&size, 0, 4) as usize);
+    let m = read_part(input, due, word(&size, 0, 4) as usize)?;
     let n = fitting(m, room);
-    write_into(lengths, product, &mut room[..n], due);
+    write_into(out, lengths, product, &mut room[..n], due)
 }
 
-fn run_room(lengths: &[u32], product: &[u8]) {
+fn run_room<R: Read, W: Write>(
+    input: &mut R,
+    out: &mut W,
+    lengths: &[u32],
+    product: &[u8],
+) -> io::Result<()> {
     let mut room = [FILL; 4096];
     let mut due = [0u8; 4096];
-    lend(lengths, product, &mut room, &mut due);
+    lend(input, out, lengths, product, &mut room, &mut due)
 }
 
 // The numbers of 4 bytes, one to a place, and zeros after them.
@@ -67,50 +86,80 @@ fn fill(lengths: &mut [u32], given: &[u8]) {
     }
 }
 
-fn run_rooms(rooms: u64, lengths: &[u32], product: &[u8]) {
+fn run_rooms<R: Read, W: Write>(
+    input: &mut R,
+    out: &mut W,
+    rooms: u64,
+    lengths: &[u32],
+    product: &[u8],
+) -> io::Result<()> {
     let mut i: u64 = 0;
     while i < rooms {
-        run_room(lengths, product);
+        run_room(input, out, lengths, product)?;
         i += 1;
     }
+    Ok(())
 }
 
-fn record_parts(rooms: u64, product: &[u8], given: &[u8], lengths: &mut [u32]) {
+fn record_parts<R: Read, W: Write>(
+    input: &mut R,
+    out: &mut W,
+    rooms: u64,
+    product: &[u8],
+    given: &[u8],
+    lengths: &mut [u32],
+) -> io::Result<()> {
     fill(lengths, given);
     let n = given.len() / 4;
     if n <= lengths.len() {
-        run_rooms(rooms, &lengths[..n], product);
+        run_rooms(input, out, rooms, &lengths[..n], product)?;
     }
+    Ok(())
 }
 
-fn record_case(rooms: u64, product: &[u8], given: &[u8]) {
+fn record_case<R: Read, W: Write>(
+    input: &mut R,
+    out: &mut W,
+    rooms: u64,
+    product: &[u8],
+    given: &[u8],
+) -> io::Result<()> {
     let mut lengths = [0u32; 1024];
-    record_parts(rooms, product, given, &mut lengths);
+    record_parts(input, out, rooms, product, given, &mut lengths)
 }
 
-fn run_case(head: &[u8], product: &mut [u8], given: &mut [u8]) {
-    let n = read_part(STDIN_FILENO, product, word(head, 0, 4) as usize);
-    let m = read_part(STDIN_FILENO, given, word(head, 4, 4) as usize);
+fn run_case<R: Read, W: Write>(
+    input: &mut R,
+    out: &mut W,
+    head: &[u8],
+    product: &mut [u8],
+    given: &mut [u8],
+) -> io::Result<()> {
+    let n = read_part(input, product, word(head, 0, 4) as usize)?;
+    let m = read_part(input, given, word(head, 4, 4) as usize)?;
     if byte(head, 12) == 0 {
-        print_replayed(replay::run::replay(&given[..m], &product[..n]));
+        print_replayed(out, replay::run::replay(&given[..m], &product[..n]))
     } else {
-        record_case(word(head, 8, 4), &product[..n], &given[..m]);
+        record_case(input, out, word(head, 8, 4), &product[..n], &given[..m])
     }
 }
 
-fn run_next(head: &[u8]) {
+fn run_next<R: Read, W: Write>(input: &mut R, out: &mut W, head: &[u8]) -> io::Result<()> {
     let mut product = [0u8; 8192];
     let mut given = [0u8; 4096];
-    run_case(head, &mut product, &mut given);
+    run_case(input, out, head, &mut product, &mut given)
 }
 
-fn main() {
+fn main(rt: HostRuntime) -> io::Result<()> {
+    let mut input = rt.stdin();
+    let mut out = rt.stdout();
     let most: usize = 100000;
     for _ in 0..most {
         let mut head = [0u8; 13];
-        if !read(STDIN_FILENO, &mut head) {
-            return;
+        if !read(&mut input, &mut head)? {
+            return Ok(());
         }
-        run_next(&head);
+        run_next(&mut input, &mut out, &head)?;
     }
+    Ok(())
 }

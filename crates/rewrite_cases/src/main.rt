@@ -6,9 +6,10 @@
 
 use cases::input::{byte, fitting, part, read, read_part, word};
 use cases::print::{number, refusal, say};
-use libc::STDIN_FILENO;
 use meter::integer::Written;
 use meter::time::Time;
+use std::io;
+use std::io::{Read, Write};
 
 const FILL: u8 = 0xaa;
 
@@ -45,16 +46,16 @@ fn time_of(defined: u8, day: u64, milli: u64) -> Time {
 }
 
 // How many bytes are written.
-fn print_answer(answer: Written) -> usize {
+fn print_answer<W: Write>(out: &mut W, answer: Written) -> io::Result<usize> {
     match answer {
         Written::Bytes(n) => {
-            say(b" written");
-            number(n as u64);
-            n
+            say(out, b" written")?;
+            number(out, n as u64)?;
+            Ok(n)
         }
         Written::Refused(r) => {
-            refusal(r);
-            0
+            refusal(out, r)?;
+            Ok(0)
         }
     }
 }
@@ -75,32 +76,54 @@ fn written_of(head: &[u8], bytes: &[u8], second: &[u8], room: &mut [u8]) -> Writ
     rewrite::join::join_pass(bytes, second, room)
 }
 
-fn write_into(head: &[u8], bytes: &[u8], second: &[u8], text: &[u8], room: &mut [u8]) {
-    let n = print_answer(written_of(head, bytes, second, room));
+fn write_into<W: Write>(
+    out: &mut W,
+    head: &[u8],
+    bytes: &[u8],
+    second: &[u8],
+    text: &[u8],
+    room: &mut [u8],
+) -> io::Result<()> {
+    let n = print_answer(out, written_of(head, bytes, second, room))?;
     if !holds(room, part(text, 0, n)) {
-        say(b" lost");
+        say(out, b" lost")?;
     }
-    say(b"\n");
+    say(out, b"\n")
 }
 
 // The next room.
-fn run_room(head: &[u8], bytes: &[u8], second: &[u8], text: &[u8]) {
+fn run_room<R: Read, W: Write>(
+    input: &mut R,
+    out: &mut W,
+    head: &[u8],
+    bytes: &[u8],
+    second: &[u8],
+    text: &[u8],
+) -> io::Result<()> {
     let mut size = [0u8; 4];
-    if !read(STDIN_FILENO, &mut size) {
-        return;
+    if !read(input, &mut size)? {
+        return Ok(());
     }
     let mut room = [FILL; ROOM];
     let m = fitting(word(&size, 0, 4) as usize, &room);
-    write_into(head, bytes, second, text, &mut room[..m]);
+    write_into(out, head, bytes, second, text, &mut room[..m])
 }
 
-fn run_rooms(head: &[u8], bytes: &[u8], second: &[u8], text: &[u8]) {
+fn run_rooms<R: Read, W: Write>(
+    input: &mut R,
+    out: &mut W,
+    head: &[u8],
+    bytes: &[u8],
+    second: &[u8],
+    text: &[u8],
+) -> io::Result<()> {
     let rooms = word(head, 12, 4);
     let mut i: u64 = 0;
     while i < rooms {
-        run_room(head, bytes, second, text);
+        run_room(input, out, head, bytes, second, text)?;
         i += 1;
     }
+    Ok(())
 }
 
 // The bytes, and zeros after them.
@@ -113,71 +136,101 @@ fn keep(pass: &mut [u8], bytes: &[u8]) {
 }
 
 // The next granule, joined to the n bytes of the pass, which is then the result: how many bytes that has. A refusal is printed.
-fn join_next(pass: &mut [u8], n: usize, second: &mut [u8]) -> usize {
+fn join_next<R: Read, W: Write>(
+    input: &mut R,
+    out: &mut W,
+    pass: &mut [u8],
+    n: usize,
+    second: &mut [u8],
+) -> io::Result<usize> {
     let mut size = [0u8; 4];
-    if !read(STDIN_FILENO, &mut size) {
-        return 0;
+    if !read(input, &mut size)? {
+        return Ok(0);
     }
-    let m = read_part(STDIN_FILENO, second, word(&size, 0, 4) as usize);
+    let m = read_part(input, second, word(&size, 0, 4) as usize)?;
     let mut room = [FILL; ROOM];
     match rewrite::join::join_pass(part(pass, 0, n), part(second, 0, m), &mut room) {
         Written::Bytes(k) => {
             keep(pass, part(&room, 0, k));
-            k
+            Ok(k)
         }
         Written::Refused(r) => {
-            refusal(r);
-            0
+            refusal(out, r)?;
+            Ok(0)
         }
     }
 }
 
 // So many granules after the first of n bytes, joined to it one by one: how many bytes the pass has.
-fn join_others(pass: &mut [u8], n: usize, second: &mut [u8], others: u64) -> usize {
+fn join_others<R: Read, W: Write>(
+    input: &mut R,
+    out: &mut W,
+    pass: &mut [u8],
+    n: usize,
+    second: &mut [u8],
+    others: u64,
+) -> io::Result<usize> {
     let mut size: usize = n;
     let mut i: u64 = 0;
     while i < others {
-        size = join_next(pass, size, second);
+        size = join_next(input, out, pass, size, second)?;
         i += 1;
     }
-    size
+    Ok(size)
 }
 
-fn run_pass(head: &[u8], pass: &mut [u8], n: usize, second: &mut [u8], text: &[u8]) {
-    let size = join_others(pass, n, second, word(head, 12, 4));
-    say(b" written");
-    number(size as u64);
+fn run_pass<R: Read, W: Write>(
+    input: &mut R,
+    out: &mut W,
+    head: &[u8],
+    pass: &mut [u8],
+    n: usize,
+    second: &mut [u8],
+    text: &[u8],
+) -> io::Result<()> {
+    let size = join_others(input, out, pass, n, second, word(head, 12, 4))?;
+    say(out, b" written")?;
+    number(out, size as u64)?;
     if !holds(part(pass, 0, size), text) {
-        say(b" lost");
+        say(out, b" lost")?;
     }
-    say(b"\n");
+    say(out, b"\n")
 }
 
-fn run_case(head: &[u8], bytes: &mut [u8], second: &mut [u8], text: &mut [u8]) {
-    let n = read_part(STDIN_FILENO, bytes, word(head, 0, 4) as usize);
-    let m = read_part(STDIN_FILENO, second, word(head, 4, 4) as usize);
-    let t = read_part(STDIN_FILENO, text, word(head, 8, 4) as usize);
+fn run_case<R: Read, W: Write>(
+    input: &mut R,
+    out: &mut W,
+    head: &[u8],
+    bytes: &mut [u8],
+    second: &mut [u8],
+    text: &mut [u8],
+) -> io::Result<()> {
+    let n = read_part(input, bytes, word(head, 0, 4) as usize)?;
+    let m = read_part(input, second, word(head, 4, 4) as usize)?;
+    let t = read_part(input, text, word(head, 8, 4) as usize)?;
     if byte(head, 16) == PASS {
-        run_pass(head, bytes, n, second, &text[..t]);
-        return;
+        return run_pass(input, out, head, bytes, n, second, &text[..t]);
     }
-    run_rooms(head, &bytes[..n], &second[..m], &text[..t]);
+    run_rooms(input, out, head, &bytes[..n], &second[..m], &text[..t])
 }
 
-fn run_next(head: &[u8]) {
+fn run_next<R: Read, W: Write>(input: &mut R, out: &mut W, head: &[u8]) -> io::Result<()> {
     let mut bytes = [0u8; ROOM];
     let mut second = [0u8; ROOM];
     let mut text = [0u8; ROOM];
-    run_case(head, &mut bytes, &mut second, &mut text);
+    run_case(input, out, head, &mut bytes, &mut second, &mut text)
 }
 
-fn main() {
+fn main(rt: HostRuntime) -> io::Result<()> {
+    let mut input = rt.stdin();
+    let mut out = rt.stdout();
     let most: usize = 100000;
     for _ in 0..most {
         let mut head = [0u8; 31];
-        if !read(STDIN_FILENO, &mut head) {
-            return;
+        if !read(&mut input, &mut head)? {
+            return Ok(());
         }
-        run_next(&head);
+        run_next(&mut input, &mut out, &head)?;
     }
+    Ok(())
 }

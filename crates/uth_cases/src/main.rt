@@ -7,62 +7,70 @@ ghost use Rattle.std.specs.Prelude.{◌≤◌};
 
 use cases::input::{read, read_part, word};
 use cases::print::{float, number, refusal, say};
-use libc::STDIN_FILENO;
+use std::io;
+use std::io::{Read, Write};
 use uth::blocks::{Block, BlockRead};
 use uth::judge::Count;
 use uth::value::Value;
 
-fn print_float(x: f32) {
+fn print_float<W: Write>(out: &mut W, x: f32) -> io::Result<()> {
     if x == x {
-        float(x as f64);
+        float(out, x as f64)
     } else {
-        say(b" nan");
+        say(out, b" nan")
     }
 }
 
-fn print_count(n: u32) {
-    number(n as u64);
+fn print_count<W: Write>(out: &mut W, n: u32) -> io::Result<()> {
+    number(out, n as u64)
 }
 
-fn print_answer(answer: Count) {
+fn print_answer<W: Write>(out: &mut W, answer: Count) -> io::Result<()> {
     match answer {
         Count::Blocks(n) => {
-            say(b" blocks");
-            number(n as u64);
+            say(out, b" blocks")?;
+            number(out, n as u64)?;
         }
-        Count::Refused(r) => refusal(r),
+        Count::Refused(r) => refusal(out, r)?,
     }
-    say(b"\n");
+    say(out, b"\n")
 }
 
-fn print_rows(rows: &[[u32; 4]]) {
+fn print_rows<W: Write>(out: &mut W, rows: &[[u32; 4]]) -> io::Result<()> {
     let mut i: usize = 0;
     while i < rows.len() {
         let row = rows[i];
-        print_count(row[0]);
-        print_count(row[1]);
-        print_count(row[2]);
-        print_count(row[3]);
-        say(b"\n");
+        print_count(out, row[0])?;
+        print_count(out, row[1])?;
+        print_count(out, row[2])?;
+        print_count(out, row[3])?;
+        say(out, b"\n")?;
         i += 1;
     }
+    Ok(())
 }
 
-fn print_pairs(pairs: &[[f32; 2]]) {
+fn print_pairs<W: Write>(out: &mut W, pairs: &[[f32; 2]]) -> io::Result<()> {
     let mut i: usize = 0;
     while i < pairs.len() {
         let pair = pairs[i];
-        print_float(pair[0]);
-        print_float(pair[1]);
-        say(b"\n");
+        print_float(out, pair[0])?;
+        print_float(out, pair[1])?;
+        say(out, b"\n")?;
         i += 1;
     }
+    Ok(())
 }
 
-fn read_into(bytes: &[u8], rows: &mut [[u32; 4]], pairs: &mut [[f32; 2]]) {
-    print_answer(uth::blocks::read_uth(bytes, rows, pairs));
-    print_rows(rows);
-    print_pairs(pairs);
+fn read_into<W: Write>(
+    out: &mut W,
+    bytes: &[u8],
+    rows: &mut [[u32; 4]],
+    pairs: &mut [[f32; 2]],
+) -> io::Result<()> {
+    print_answer(out, uth::blocks::read_uth(bytes, rows, pairs))?;
+    print_rows(out, rows)?;
+    print_pairs(out, pairs)
 }
 
 // At most 32 places.
@@ -76,76 +84,91 @@ fn places(n: u64) -> usize
 }
 
 // The next rooms.
-fn run_room(bytes: &[u8]) {
+fn run_room<R: Read, W: Write>(input: &mut R, out: &mut W, bytes: &[u8]) -> io::Result<()> {
     let mut sizes = [0u8; 8];
-    if !read(STDIN_FILENO, &mut sizes) {
-        return;
+    if !read(input, &mut sizes)? {
+        return Ok(());
     }
     let mut rows = [[7u32; 4]; 32];
     let mut pairs = [[0.5f32; 2]; 32];
     let r = places(word(&sizes, 0, 4));
     let p = places(word(&sizes, 4, 4));
-    read_into(bytes, &mut rows[..r], &mut pairs[..p]);
+    read_into(out, bytes, &mut rows[..r], &mut pairs[..p])
 }
 
-fn run_rooms(bytes: &[u8], rooms: u64) {
+fn run_rooms<R: Read, W: Write>(
+    input: &mut R,
+    out: &mut W,
+    bytes: &[u8],
+    rooms: u64,
+) -> io::Result<()> {
     let mut i: u64 = 0;
     while i < rooms {
-        run_room(bytes);
+        run_room(input, out, bytes)?;
         i += 1;
     }
+    Ok(())
 }
 
-fn print_value(v: Value) {
+fn print_value<W: Write>(out: &mut W, v: Value) -> io::Result<()> {
     match v {
-        Value::Missing => say(b" missing"),
-        Value::There(x) => print_float(x),
+        Value::Missing => say(out, b" missing"),
+        Value::There(x) => print_float(out, x),
     }
 }
 
-fn print_block(b: Block) {
-    print_count(b.line);
-    print_count(b.column);
+fn print_block<W: Write>(out: &mut W, b: Block) -> io::Result<()> {
+    print_count(out, b.line)?;
+    print_count(out, b.column)?;
     let uth = b.uth;
     let csr = b.csr;
-    print_value(uth);
-    print_value(csr);
+    print_value(out, uth)?;
+    print_value(out, csr)
 }
 
-fn ask(bytes: &[u8], k: usize) {
+fn ask<W: Write>(out: &mut W, bytes: &[u8], k: usize) -> io::Result<()> {
     match uth::blocks::block_at(bytes, k) {
-        BlockRead::Block(b) => print_block(b),
-        BlockRead::Refused(r) => refusal(r),
+        BlockRead::Block(b) => print_block(out, b)?,
+        BlockRead::Refused(r) => refusal(out, r)?,
     }
-    say(b"\n");
+    say(out, b"\n")
 }
 
-fn ask_blocks(bytes: &[u8], count: usize) {
+fn ask_blocks<W: Write>(out: &mut W, bytes: &[u8], count: usize) -> io::Result<()> {
     let mut k: usize = 0;
     while k < count {
-        ask(bytes, k);
+        ask(out, bytes, k)?;
         k += 1;
     }
+    Ok(())
 }
 
-fn run_file(head: &[u8], bytes: &[u8]) {
-    run_rooms(bytes, word(head, 4, 4));
-    ask_blocks(bytes, word(head, 8, 4) as usize);
+fn run_file<R: Read, W: Write>(
+    input: &mut R,
+    out: &mut W,
+    head: &[u8],
+    bytes: &[u8],
+) -> io::Result<()> {
+    run_rooms(input, out, bytes, word(head, 4, 4))?;
+    ask_blocks(out, bytes, word(head, 8, 4) as usize)
 }
 
-fn run_next(head: &[u8]) {
+fn run_next<R: Read, W: Write>(input: &mut R, out: &mut W, head: &[u8]) -> io::Result<()> {
     let mut bytes = [0u8; 4096];
-    let n = read_part(STDIN_FILENO, &mut bytes, word(head, 0, 4) as usize);
-    run_file(head, &bytes[..n]);
+    let n = read_part(input, &mut bytes, word(head, 0, 4) as usize)?;
+    run_file(input, out, head, &bytes[..n])
 }
 
-fn main() {
+fn main(rt: HostRuntime) -> io::Result<()> {
+    let mut input = rt.stdin();
+    let mut out = rt.stdout();
     let most: usize = 100000;
     for _ in 0..most {
         let mut head = [0u8; 12];
-        if !read(STDIN_FILENO, &mut head) {
-            return;
+        if !read(&mut input, &mut head)? {
+            return Ok(());
         }
-        run_next(&head);
+        run_next(&mut input, &mut out, &head)?;
     }
+    Ok(())
 }

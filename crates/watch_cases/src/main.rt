@@ -5,58 +5,68 @@
 use cases::input::{read, read_part, word};
 use cases::print::{number, refusal, say};
 use judge::arrival::Arrival;
-use libc::STDIN_FILENO;
+use std::io;
+use std::io::{Read, Write};
 use watch::Watch;
 
-fn print_answer(answer: Arrival) {
+fn print_answer<W: Write>(out: &mut W, answer: Arrival) -> io::Result<()> {
     match answer {
         Arrival::Waiting { count, end } => {
-            say(b" waiting");
-            number(count as u64);
-            number(end as u64);
+            say(out, b" waiting")?;
+            number(out, count as u64)?;
+            number(out, end as u64)?;
         }
-        Arrival::Refused(r) => refusal(r),
+        Arrival::Refused(r) => refusal(out, r)?,
     }
-    say(b"\n");
+    say(out, b"\n")
 }
 
 // The watch after the next part.
-fn fed(w: Watch, bytes: &mut [u8]) -> Watch {
+fn fed<R: Read, W: Write>(
+    input: &mut R,
+    out: &mut W,
+    w: Watch,
+    bytes: &mut [u8],
+) -> io::Result<Watch> {
     let mut head = [0u8; 4];
-    if !read(STDIN_FILENO, &mut head) {
-        return w;
+    if !read(input, &mut head)? {
+        return Ok(w);
     }
-    let n = read_part(STDIN_FILENO, bytes, word(&head, 0, 4) as usize);
+    let n = read_part(input, bytes, word(&head, 0, 4) as usize)?;
     let f = watch::step(w, &bytes[..n]);
     let answer = f.answer;
-    print_answer(answer);
-    f.watch
+    print_answer(out, answer)?;
+    Ok(f.watch)
 }
 
-fn run_case(parts: u64) {
+fn run_case<R: Read, W: Write>(input: &mut R, out: &mut W, parts: u64) -> io::Result<()> {
     let mut w = watch::new();
     let mut bytes = [0u8; 65536];
     let mut i: u64 = 0;
     while i < parts {
-        w = fed(w, &mut bytes);
+        w = fed(input, out, w, &mut bytes)?;
         i += 1;
     }
+    Ok(())
 }
 
-fn run_next(k: u64, head: &[u8]) {
-    say(b"case");
-    number(k);
-    say(b"\n");
-    run_case(word(head, 0, 4));
+fn run_next<R: Read, W: Write>(input: &mut R, out: &mut W, k: u64, head: &[u8]) -> io::Result<()> {
+    say(out, b"case")?;
+    number(out, k)?;
+    say(out, b"\n")?;
+    run_case(input, out, word(head, 0, 4))
 }
 
-fn main() {
+fn main(rt: HostRuntime) -> io::Result<()> {
+    let mut input = rt.stdin();
+    let mut out = rt.stdout();
     let most: u64 = 100000;
     for k in 0..most {
         let mut head = [0u8; 4];
-        if !read(STDIN_FILENO, &mut head) {
-            return;
+        if !read(&mut input, &mut head)? {
+            return Ok(());
         }
-        run_next(k, &head);
+        run_next(&mut input, &mut out, k, &head)?;
     }
+    Ok(())
 }

@@ -1,11 +1,9 @@
--- The invariant of the loop, and its measure.
-use Prim.Native.Nat.{◌≤◌, ◌-◌}
-use mathlib.Core.Path.{◌≡◌}
-use lib.ListN.{length}
+-- `list::is_help`: six bytes.
+use Rattle.std.proofs.Common.{◌-◌, ◌≤◌}
 use Rattle.list.proofs.is_help.Given as goal
 
 abbrev pub invariant-loop-i : goal.invariant-loop-i
-invariant-loop-i l = (l.i ≤ 6) × (length l.word ≡ 6)
+invariant-loop-i l = l.i ≤ 6
 
 abbrev pub decreases-loop-i : goal.decreases-loop-i
 decreases-loop-i l = 6 - l.i

@@ -1,11 +1,9 @@
--- The invariant of the loop, and its measure.
-use Prim.Native.Nat.{◌-◌, ◌≤◌}
-use mathlib.Core.Path.{◌≡◌}
-use lib.ListN.{length}
+-- `list::read_input`: what came is within the bytes.
+use Rattle.std.proofs.Common.{length, ◌-◌, ◌≤◌}
 use Rattle.list.proofs.read_input.Given as goal
 
 abbrev pub invariant-loop-done : goal.invariant-loop-done
-invariant-loop-done l = (l.done ≤ length l.bytes) × (length l.bytes ≡ length l.initial.bytes)
+invariant-loop-done g l = l.done ≤ length l.bytes
 
 abbrev pub decreases-loop-done : goal.decreases-loop-done
-decreases-loop-done l = length l.bytes - l.done
+decreases-loop-done g l = length l.bytes - l.done

@@ -2,10 +2,8 @@
 use lib.Ieee.{binary64, nan_bits}
 use lib.Dec.{T, eqb}
 use borrow.Author.Tests.{eqb-true, eq-eqb}
-use Prim.Native.Nat.{ℕ, ◌≤◌, ◌%◌, ◌/◌}
-use mathlib.Core.Bool.{Bool, true, false, not, ◌&&◌}
-use mathlib.Core.Path.{◌≡◌, refl}
-use native.Mathlib.Omega.{arith}
+use mathlib.Core.Bool.{◌&&◌, not}
+use Rattle.std.proofs.Common.{arith, ◌≡◌, ℕ, ◌≤◌, ◌/◌, ◌%◌, Bool, true, false, refl}
 use Rattle.meter_cases.proofs.float_value.Goals as goal
 
 number : (b : ℕ) → b % 0x8000_0000_0000_0000 ≤ 0x7ff0_0000_0000_0000 → T (not (nan_bits binary64 b))
@@ -17,4 +15,4 @@ number b h = go (eqb (b % 0x8000_0000_0000_0000 / 0x10_0000_0000_0000) 2047) ref
     go false e = tt
 
 pub float_from_bits-want : goal.float_from_bits-want
-float_from_bits-want c = number c.word-bits.result c.if-bits-gt9218868437227405312.false
+float_from_bits-want c = number c.word-bits.result (omega (arith, c.if-bits-gt9218868437227405312.false))

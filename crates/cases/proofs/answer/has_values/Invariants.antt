@@ -1,4 +1,4 @@
--- The invariant of the loop, and its measure.
+-- `cases::answer::has_values`: the numbers passed stand in the case.
 use Rattle.std.proofs.Common.{◌≡◌, ℕ, ◌+◌, ◌-◌, ◌*◌, ◌<◌, ◌≤◌, get_or}
 use Rattle.cases.specs.Case.{number_at}
 use Rattle.cases.proofs.answer.has_values.Given as goal

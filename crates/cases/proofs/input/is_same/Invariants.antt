@@ -1,5 +1,5 @@
--- The invariant of the loop, and its measure.
-use Rattle.std.proofs.Common.{◌≡◌, ℕ, ◌+◌, ◌-◌, ◌<◌, ◌≤◌, length, get_or}
+-- `cases::input::is_same`: the bytes passed are the same.
+use Rattle.std.proofs.Common.{length, ◌-◌, ◌≡◌, ℕ, ◌+◌, ◌<◌, ◌≤◌, get_or}
 use Rattle.cases.proofs.input.is_same.Given as goal
 
 abbrev pub invariant-loop-i : goal.invariant-loop-i

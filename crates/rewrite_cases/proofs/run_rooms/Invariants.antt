@@ -1,9 +1,0 @@
--- The invariant of the loop, and its measure.
-use Prim.Native.Nat.{◌≤◌, ◌-◌}
-use Rattle.rewrite_cases.proofs.run_rooms.Given as goal
-
-abbrev pub invariant-loop-i : goal.invariant-loop-i
-invariant-loop-i l = l.i ≤ l.rooms
-
-abbrev pub decreases-loop-i : goal.decreases-loop-i
-decreases-loop-i l = l.rooms - l.i

@@ -1,9 +1,0 @@
--- The invariant of the loop, and its measure.
-use Prim.Native.Nat.{◌≤◌, ◌-◌}
-use Rattle.watch_cases.proofs.main.Given as goal
-
-abbrev pub invariant-loop-k : goal.invariant-loop-k
-invariant-loop-k l = l.k ≤ 100000
-
-abbrev pub decreases-loop-k : goal.decreases-loop-k
-decreases-loop-k l = 100000 - l.k

@@ -72,11 +72,11 @@ within_joins w c (past d) = absurd (d w)
 
 pub never_36 : {x y v : List ℕ} {ps : List (List ℕ)} {rs : List Added} → Reports ps v → Within (plus x v) → Lent x ps rs y → AllIn rs
 never_36 none w done = tt
-never_36 {x} (more {v = v} {x = u} s c r) w (next p l) =
+never_36 {x} (more {v = v} {x = u} s c r) w (next {y = y'} p l) =
     let e = (unique_contribution c p.contributes).1 in
     let all : Within (plus (plus x p.share) u) = subst Within (ap (λ (z : List ℕ). plus x (plus z u)) e ∙ sym (plus_assoc x p.share u)) w in
     let j = within_joins (within_left (plus x p.share) u all) p.contributes p.joins in
-    (j.0, never_36 r (subst (λ (z : List ℕ). Within (plus z u)) (sym j.1) all) l)
+    (j.0, never_36 {x = y'} r (subst (λ (z : List ℕ). Within (plus z u)) (sym j.1) all) l)
 
 -- "a 4,097th product (refused ones counted)": each adds one to the products, so that a longer list leaves the limits
 adds_one : {a v : List ℕ} {s : Added} → Contributes a s v → get_or v 0 0 ≡ 1

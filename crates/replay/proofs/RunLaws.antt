@@ -16,7 +16,7 @@ use Rattle.watch.specs.Watched.{Watched}
 use Rattle.watch.specs.Stands.{StandsFor, FedIs, Fresh}
 use Rattle.watch.specs.declared.Watch.{Watch}
 use Rattle.replay.specs.Layout.{parts, length_at, Three, three, three_at, answer_at, three_of, sums}
-use Rattle.replay.specs.Replay.{Answered, Agrees, Differs, Replayable, ReplayIs, none, first}
+use Rattle.replay.specs.Replay.{Answered, Agrees, Replayable, ReplayIs, none, first}
 use Rattle.replay.specs.Steps.{Decides, Fits}
 use Rattle.replay.specs.declared.run.Replayed.{Replayed}
 use Rattle.replay.specs.declared.run.Replayed.TheVariants as R

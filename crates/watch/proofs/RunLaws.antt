@@ -1,12 +1,12 @@
 -- A run of records like the last one, in a part: it is one of all that was fed, and the walk stands after it as after each of its turns. By the
 -- judge's laws of a run. Assumes nothing.
-use Prim.Native.Nat.{ℕ, ◌+◌, ◌-◌, ◌≤◌, ◌<◌}
+use Prim.Native.Nat.{ℕ, ◌+◌, ◌≤◌, ◌<◌}
 use native.Mathlib.Omega.{arith}
-use mathlib.Core.Path.{◌≡◌, refl, sym, ◌∙◌, ap}
+use mathlib.Core.Path.{◌≡◌, sym, ◌∙◌}
 use mathlib.Core.List.{List}
-use lib.ListN.{length, get_or, set}
-use lib.Seq.{get_or-set_same, get_or-set_other, set-set}
-use Rattle.judge.specs.Table.{site, kind_at, one_more}
+use lib.ListN.{length, get_or}
+use lib.Seq.{get_or-set_same, get_or-set_other}
+use Rattle.judge.specs.Table.{site, kind_at}
 use Rattle.judge.specs.Step.{Facing}
 use Rattle.judge.specs.Run.{LikeIs, Alike, none, more, some_more}
 use Rattle.judge.proofs.RankLaws.{class_alike, group_alike, size_alike, timed_alike, class_most}

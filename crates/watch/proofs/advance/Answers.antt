@@ -1,6 +1,5 @@
 -- `watch::advance` meets its contract: what stands for something is sane, so it is never turned away (`stands_sane`). Assumes nothing.
 use native.Mathlib.Omega.{arith}
-use mathlib.Core.Bool.{true, false}
 use borrow.Author.Tests.{not-true, not-false}
 use Rattle.watch.proofs.StepLaws.{stands_sane, walking_on, resting}
 use Rattle.watch.proofs.advance.Goals as goal

@@ -1,5 +1,4 @@
 -- `watch::is_one_more` meets its contract: the tests in turn. Assumes nothing.
-use mathlib.Core.Bool.{true, false}
 use borrow.Author.Tests.{leb-true, leb-false}
 use Rattle.judge.proofs.RankLaws.{clash}
 use Rattle.watch.proofs.is_one_more.Goals as goal

@@ -1,7 +1,7 @@
 -- The invariant of the loop, and its measure.
 use Prim.Native.Nat.{◌-◌}
 use Rattle.watch.specs.Stands.{laid}
-use Rattle.replay.proofs.RunLaws.{Running, starts}
+use Rattle.replay.proofs.RunLaws.{Running}
 use Rattle.replay.proofs.run.replay_parts.Given as goal
 
 abbrev pub invariant-loop-k : goal.invariant-loop-k

@@ -1,6 +1,5 @@
 -- `watch::pending::first_of` meets its contract. The invariant: none of the pointers so far is looked for. Assumes nothing.
 use native.Mathlib.Omega.{arith}
-use mathlib.Core.Bool.{true, false}
 use Rattle.watch.proofs.Leaves.{hit_at, no_hit, no_more, first_found, first_none}
 use borrow.Author.Rules.{rules}
 use Rattle.watch.proofs.pending.first_of.Goals as goal

@@ -1,7 +1,6 @@
 -- `watch::pending::is_hit` meets its contract: the tests in turn. Assumes nothing.
 use native.Mathlib.Omega.{arith}
 use mathlib.Core.Path.{sym}
-use mathlib.Core.Bool.{true, false}
 use Rattle.judge.proofs.RankLaws.{clash}
 use Rattle.watch.proofs.pending.is_hit.Goals as goal
 

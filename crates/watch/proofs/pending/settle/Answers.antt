@@ -1,7 +1,6 @@
 -- `watch::pending::settle` meets its contract: what is found inside, then what is of another kind, then neither. Assumes nothing.
 use Prim.Native.Nat.{ℕ}
 use mathlib.Core.Path.{◌≡◌}
-use mathlib.Core.Bool.{true, false}
 use mathlib.Core.List.{List}
 use Rattle.watch.specs.Pending.{FirstIn}
 use Rattle.watch.proofs.Leaves.{clear_soon, clear_found}

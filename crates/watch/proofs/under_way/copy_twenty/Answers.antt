@@ -1,7 +1,6 @@
 -- `watch::under_way::copy_twenty` meets its contract. The invariant: the first k bytes are the part's. Assumes nothing.
 use Prim.Native.Nat.{◌+◌}
 use native.Mathlib.Omega.{arith}
-use mathlib.Core.Bool.{false}
 use Rattle.watch.proofs.Leaves.{copied_none, copied_more, twenty}
 use borrow.Author.Rules.{rules}
 use Rattle.watch.proofs.under_way.copy_twenty.Goals as goal

@@ -1,7 +1,6 @@
 -- `watch::under_way::fill_slowly` meets its contract. The invariant: what was copied so far is the part's. Assumes nothing.
 use Prim.Native.Nat.{◌<◌}
 use native.Mathlib.Omega.{arith}
-use mathlib.Core.Bool.{true, false}
 use Rattle.watch.proofs.Leaves.{copied_none, copied_more, full_at, filled_end, not_full}
 use borrow.Author.Rules.{rules}
 use Rattle.watch.proofs.under_way.fill_slowly.Goals as goal

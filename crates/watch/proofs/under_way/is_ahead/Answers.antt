@@ -1,7 +1,6 @@
 -- `watch::under_way::is_ahead` meets its contract: the tests in turn. Assumes nothing.
 use Prim.Native.Nat.{◌-◌}
 use native.Mathlib.Omega.{arith}
-use mathlib.Core.Bool.{false}
 use borrow.Author.Tests.{leb-true}
 use Rattle.judge.proofs.RankLaws.{clash}
 use Rattle.watch.proofs.under_way.is_ahead.Goals as goal

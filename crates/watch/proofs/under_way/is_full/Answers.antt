@@ -1,6 +1,5 @@
 -- `watch::under_way::is_full` meets its contract: the tests in turn. Assumes nothing.
 use mathlib.Core.Path.{sym}
-use mathlib.Core.Bool.{true, false}
 use mathlib.Core.Logic.{inl, inr}
 use borrow.Author.Tests.{leb-true, leb-false}
 use Rattle.judge.proofs.RankLaws.{clash}

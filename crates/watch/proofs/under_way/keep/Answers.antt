@@ -1,6 +1,5 @@
 -- `watch::under_way::keep` meets its contract. The invariant: what was copied so far is the part's. Assumes nothing.
 use native.Mathlib.Omega.{arith}
-use mathlib.Core.Bool.{true, false}
 use Rattle.watch.proofs.Leaves.{copied_none, copied_more}
 use borrow.Author.Rules.{rules}
 use Rattle.watch.proofs.under_way.keep.Goals as goal

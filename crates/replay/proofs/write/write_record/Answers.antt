@@ -23,4 +23,4 @@ put_record-requires c = record { fit = fit (goal.at.put_record-requires c).Else-
 
 pub returns : goal.returns
 returns c =
-    writes (record { fit = fit (goal.at.returns c).Else-sum_in-product; enough = c.if-room-bytes.false }) (λ i. (c.slice_known-2-1.given i).fits) c.put_record.ensures
+    writes (record { fit = fit (goal.at.returns c).Else-sum_in-product; enough = c.if-room-bytes.false }) (λ i. (c.type_inv.room i).fits) c.put_record.ensures

@@ -69,7 +69,7 @@ begins_stand {i} b (later {r = r} s) = there (let c : b + (i + length r) ≡ b +
 
 begins_skip : {i t k : ℕ} (xs : List (List ℕ)) {ys : List (List ℕ)} → Begins (i + bytes xs) ys t k → Begins i (xs ++ ys) t k
 begins_skip {i} [] b = let c : i + 0 ≡ i = omega arith in rw c at b
-begins_skip {i} (x ∷ xs) b = there (begins_skip xs (let c : i + (length x + bytes xs) ≡ i + length x + bytes xs = omega arith in rw c at b))
+begins_skip {i} (x ∷ xs) b = there (begins_skip {i = i + length x} xs (let c : i + (length x + bytes xs) ≡ i + length x + bytes xs = omega arith in rw c at b))
 
 begins_to : {i t k : ℕ} {ks : List (List ℕ)} → Begins i ks t k → t ≤ i + bytes ks
 begins_to (here e d) = omega arith

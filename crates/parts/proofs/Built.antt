@@ -66,13 +66,13 @@ module _ (a : List ℕ) where
       let ec : class a i ≡ class r 0 = class_at t w.least in
       let ez : size a i ≡ length r = size_at t w.least ∙ w.sized in
       more (is_record t w f) (λ c. aims r rs s o (g (sym ec ∙ c)) (w.ipr (sym ec ∙ c)))
-      (rw (ez, ec) (records_of rs (at_right r (joined rs) s) (omega arith) (λ x h. o x (pop h)) fs gs))
+      (rw (ez, ec) (records_of {i = i + length r} rs (at_right r (joined rs) s) (omega arith) (λ x h. o x (pop h)) fs gs))
 
   counted : {i : ℕ} (c : ℕ) (rs : List (List ℕ)) → At a i (joined rs) → ((r : List ℕ) → In r rs → Own r) → of_class a c (starts_from i rs) ≡ count c rs
   counted c [] s o = refl
   counted {i} c (r ∷ rs) s o =
       let ec : class a i ≡ class r 0 = class_at (at_left r (joined rs) s) (o r (top refl)).least in
-      rw (ec, counted c rs (at_right r (joined rs) s) (λ x h. o x (pop h)))
+      rw (ec, counted {i = i + length r} c rs (at_right r (joined rs) s) (λ x h. o x (pop h)))
 
 module _ (m : List ℕ) (rs : List (List ℕ)) (b : Built m rs) where
   stands : At (bytes_of m rs) 3307 (joined rs)

@@ -146,7 +146,7 @@ module _ {a b : List ℕ} where
       let n = (o r (top refl)).least in
       rw e ((at_left r (joined rs) x).byte j (omega arith) ∙ p.header j h ∙ sym ((at_left s (joined ss) y).byte j (omega (arith, p.long))))
   headers_at {i} x y o (more {r = r} {s = s} {rs = rs} {ss = ss} p ps) t (pop m) j h =
-      headers_at (at_right r (joined rs) x) (subst (λ (n : ℕ). At b (i + n) (joined ss)) (sym p.long) (at_right s (joined ss) y)) (λ r n. o r (pop n)) ps t m j h
+      headers_at {i = i + length r} (at_right r (joined rs) x) (subst (λ (n : ℕ). At b (i + n) (joined ss)) (sym p.long) (at_right s (joined ss) y)) (λ r n. o r (pop n)) ps t m j h
 
   iprs_at : {i : ℕ} {rs ss : List (List ℕ)} → At a i (joined rs) → At b i (joined ss) → ((r : List ℕ) → In r rs → Own r) → Paid rs ss → (t : ℕ) → In t (starts_from i rs) → class a t ≡ 3 → (j : ℕ) → j < 27 → get_or a (t + j) 0 ≡ get_or b (t + j) 0
   iprs_at x y o none t m c j h = absurd (nil m)
@@ -159,7 +159,7 @@ module _ {a b : List ℕ} where
       let l = w.ipr d in
       rw e ((at_left r (joined rs) x).byte j (omega arith) ∙ ap (λ (v : List ℕ). get_or v j 0) (p.ipr d) ∙ sym ((at_left s (joined ss) y).byte j (omega (arith, p.long))))
   iprs_at {i} x y o (more {r = r} {s = s} {rs = rs} {ss = ss} p ps) t (pop m) c j h =
-      iprs_at (at_right r (joined rs) x) (subst (λ (n : ℕ). At b (i + n) (joined ss)) (sym p.long) (at_right s (joined ss) y)) (λ r n. o r (pop n)) ps t m c j h
+      iprs_at {i = i + length r} (at_right r (joined rs) x) (subst (λ (n : ℕ). At b (i + n) (joined ss)) (sym p.long) (at_right s (joined ss) y)) (λ r n. o r (pop n)) ps t m c j h
 
 -- A PRODUCT of the one list and one of the other, of the same main header, are apart in payload alone
 pub paid_apart : (m : List ℕ) (rs ss : List (List ℕ)) → Built m rs → Paid rs ss → Apart (bytes_of m rs) (bytes_of m ss)

@@ -305,9 +305,9 @@ nth_right [] d f k h = absurd (omega arith)
 nth_right (x ∷ l) d f zero h = f x (top refl)
 nth_right (x ∷ l) d f (suc k) h = nth_right l d (λ y n. f y (pop n)) k (omega arith)
 
-pub is_pointer : (p : Pointer) → RightPointer p → is_pointer p ≡ true
+pub is_pointer_lem : (p : Pointer) → RightPointer p → is_pointer p ≡ true
 unfolding is_pointer
-is_pointer p r = and_is r.header.form (rw (r.is_class, r.is_size))
+is_pointer_lem p r = and_is r.header.form (rw (r.is_class, r.is_size))
 
 size_is : (a : List ℕ) (i : ℕ) (p : Pointer) → pointer_at a i ≡ p → size a i ≡ p.header.size
 unfolding pointer_at header_at
@@ -333,7 +333,7 @@ module _ (a : List ℕ) (bs : Bytes a) (m : Meets a) where
       let q : pointer_at a i ≡ p = pointer_parts a i p (sym (nth-rec a m.list (pointer p) k l) ∙ e) in
       let r : RightPointer p = rw e at (nth_right (recs_at a m.list) (pointer p) (parse_right a bs m).records k h) in
       let z : size a i ≡ 27 = size_is a i p q ∙ r.is_size in
-      rw (s, le-leb (i + 27) (length a) (omega (arith, nth-come m.records k l, m.come)), q, is_pointer p r)
+      rw (s, le-leb (i + 27) (length a) (omega (arith, nth-come m.records k l, m.come)), q, is_pointer_lem p r)
 
   pub answers : Answers a (parse_at a m.list)
   answers = record { verdict = verdict a m; arrival = arrival a m; texts = texts a m; numbers = numbers a m; times = times a m; points = points a m; records = records a m; targets = targets; rows = rows a m; listing = listing a m }

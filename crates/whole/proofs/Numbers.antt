@@ -158,7 +158,7 @@ module _ (signed : Bool) (a : List ℕ) (i w : ℕ) (g : NumberIn signed a i w) 
 
     turn : (n : ℕ) → suc n < w → (minus : Bool) → Due (suc n) minus → (v : ℕ) → v ≡ number_of a i (suc n) → Dec (n < g.spaces) → Dec (n < g.spaces + g.sign) → Turn n minus v
     unfolding number_of
-    turn n h true (o, s) v e (yes l) _ = absurd (omega arith)
+    turn n h true d v e (yes l) _ = absurd (omega (arith, d.1))
     turn n h false d v e (yes l) _ =
         let z : v ≡ 0 = e ∙ number_zeros a i (suc n) (λ j u. front j (omega arith)) in
         let q = number_zeros a i n (λ j u. front j (omega arith)) in

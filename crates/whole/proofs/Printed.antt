@@ -1,6 +1,6 @@
 -- THE FIRST LAW: the bytes of right values are a product. The main header fits the records, and the records tile the rest; so they are built, and what is
 -- built meets the format (parts' Built). Assumes nothing.
-use mathlib.Core.Path.{◌≡◌, refl, sym, ap, ◌∙◌}
+use mathlib.Core.Path.{◌≡◌, refl, sym, ap, subst, ◌∙◌}
 use mathlib.Core.Bool.{Bool, true, false, cond, not, ◌&&◌}
 use mathlib.Core.List.Memᴰ.{head as top}
 use mathlib.Core.List.Memᴰ.{not-nil as nil}
@@ -312,7 +312,7 @@ module _ (v : Values) (r : Right v) where
   main_totals c h l (yes e) =
       let f : class (main_of v) 0 ≡ 1 = class_of (main_of v) 0 v.header main_head ∙ r.main.0 in
       let z : count 1 v.records ≡ 0 = count_none v.records classes in
-      rw (e, f, recs_count 1 v.records r.records, z) (sym main_mphr)
+      subst (λ (x : ℕ). P.count x (main_of v ∷ recs_of v.records) ≡ total (main_of v) x) (sym e) (rw (f, recs_count 1 v.records r.records, z) (sym main_mphr))
   main_totals c h l (no d) =
       let f : class (main_of v) 0 ≡ 1 = class_of (main_of v) 0 v.header main_head ∙ r.main.0 in
       let z : eqb 1 c ≡ false = ne_eqb 1 c (λ e. d (sym e)) in

@@ -29,8 +29,8 @@ loop-j-preserved c =
     let t = c.args.table.now in
     let j = c.loop-j.j in
     elim c.if-table-j-ne0.branch [
-    then-table-j-ne0 w ↦ (omega (arith, filled_more t j w.if-table-j-ne0.true, c.loop-j.invariant.0), omega arith, omega arith)
-    | else-table-j-ne0 w ↦ (omega (arith, filled_skip t j w.if-table-j-ne0.false, c.loop-j.invariant.0), omega arith, omega arith)
+      | then-table-j-ne0 w ↦ (omega (arith, filled_more t j w.if-table-j-ne0.true, c.loop-j.invariant.0), omega arith, omega arith)
+      | else-table-j-ne0 w ↦ (omega (arith, filled_skip t j w.if-table-j-ne0.false, c.loop-j.invariant.0), omega arith, omega arith)
     ]
 
 pub returns : goal.returns

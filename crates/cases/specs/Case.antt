@@ -1,5 +1,5 @@
 -- What the bytes of a case say. Assumes nothing.
-use Rattle.std.specs.Prelude.{◌≡◌, ℕ, ◌+◌, ◌<◌, ◌≤◌, cond, ◌&&◌, List, length, slice_index, take}
+use Rattle.std.specs.Prelude.{◌≡◌, ℕ, ◌+◌, ◌<◌, ◌≤◌, cond, List, length, slice_index, take}
 use Rattle.meter.specs.Integer.{be_at, is_width}
 use Rattle.meter.specs.Lent.{inside}
 

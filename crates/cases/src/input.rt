@@ -1,5 +1,6 @@
 // Cases are read from a reader, standard input or a file, into lent rooms, and taken apart by their bytes.
-ghost use Rattle.std.specs.Prelude.{◌≡◌, true, take, drop, slice_index, IfOk};
+ghost use Rattle.std.specs.Prelude.{◌≡◌, ◌<◌, true, false, length, take, drop, slice_index, IfOk};
+ghost use Rattle.std.specs.Io.KnownBytes.{Consumes, IsAtEnd};
 ghost use Rattle.cases.specs.Case.{number_at, Same, IsPrefixLen};
 
 use meter::integer::Unsigned;
@@ -8,7 +9,9 @@ use std::io::Read;
 
 // Reads until the room is full or the input ends: how many bytes came to the room's start.
 fn fill<R: Read>(input: &mut R, room: &mut [u8]) -> io::Result<usize>
-    ensures { IfOk result (λ n. IsPrefixLen n room.new) }
+    ensures count { IfOk result (λ n. IsPrefixLen n room.new) }
+    ensures bytes { IfOk result (λ n. Consumes (R.remaining input.old) (R.remaining input.new) (take n room.new)) }
+    ensures end { IfOk result (λ n. n < length room.new → IsAtEnd (R.remaining input.new)) }
 {
     let mut done: usize = 0;
     while done < room.len() {
@@ -22,14 +25,18 @@ fn fill<R: Read>(input: &mut R, room: &mut [u8]) -> io::Result<usize>
 }
 
 // Fills the room; false where the input ends before.
-pub fn read<R: Read>(input: &mut R, room: &mut [u8]) -> io::Result<bool> {
+pub fn read<R: Read>(input: &mut R, room: &mut [u8]) -> io::Result<bool>
+    ensures full { IfOk result (λ full. full ≡ true → Consumes (R.remaining input.old) (R.remaining input.new) room.new) }
+    ensures end { IfOk result (λ full. full ≡ false → IsAtEnd (R.remaining input.new)) }
+{
     let n = room.len();
     Ok(fill(input, room)? == n)
 }
 
 // How many bytes came to the room's start, of n that were to come; none where there is no room for n.
 pub fn read_part<R: Read>(input: &mut R, room: &mut [u8], n: usize) -> io::Result<usize>
-    ensures { IfOk result (λ got. IsPrefixLen got room.new) }
+    ensures count { IfOk result (λ got. IsPrefixLen got room.new) }
+    ensures bytes { IfOk result (λ got. Consumes (R.remaining input.old) (R.remaining input.new) (take got room.new)) }
 {
     if n <= room.len() {
         return fill(input, &mut room[..n]);

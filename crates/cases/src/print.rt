@@ -1,16 +1,22 @@
 // What is printed: words, and numbers after a space. Whoever prints the last of a line ends the line.
-ghost use Rattle.std.specs.Prelude.{◌≡◌, ◌*◌, take, drop};
+ghost use Rattle.std.specs.Prelude.{◌≡◌, ◌*◌, ◌∷◌, take, drop, OnOk};
+ghost use Rattle.std.specs.Fmt.{decimal};
+ghost use Rattle.std.specs.Io.KnownBytes.{Appends};
 
 use crate::input::part;
 use calendar::Refusal;
 use std::io;
 use std::io::Write;
 
-pub fn say<W: Write>(out: &mut W, text: &[u8]) -> io::Result<()> {
+pub fn say<W: Write>(out: &mut W, text: &[u8]) -> io::Result<()>
+    ensures { OnOk result (Appends (W.contents out.old) (W.contents out.new) text.now) }
+{
     out.write_all(text)
 }
 
-pub fn number<W: Write>(out: &mut W, n: u64) -> io::Result<()> {
+pub fn number<W: Write>(out: &mut W, n: u64) -> io::Result<()>
+    ensures { OnOk result (Appends (W.contents out.old) (W.contents out.new) (32 ∷ decimal n)) }
+{
     write!(out, " {n}")
 }
 

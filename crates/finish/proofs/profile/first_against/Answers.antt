@@ -4,7 +4,6 @@ use native.Mathlib.Omega.{arith}
 use mathlib.Core.List.{List}
 use mathlib.Core.Path.{◌≡◌, sym, subst, ◌∙◌}
 use lib.ListN.{length}
-use borrow.Author.Tests.{not-true, not-false}
 use Rattle.judge.specs.Table.{size_at}
 use Rattle.finish.specs.Ahead.{Record, Ahead}
 use Rattle.finish.proofs.AheadLaws.{there}
@@ -35,7 +34,7 @@ bounds-s-at-in-loop-at-3 c = omega (arith, come (goal.at.bounds-s-at-in-loop-at-
 
 pub returns-then-not-allows : goal.returns-then-not-allows
 returns-then-not-allows c =
-    λ l w. sym (asked_stop (c.loop-at.invariant l w) c.loop-at-test.true (sym c.allows.ensures ∙ not-true c.allows.result c.if-not-allows.true-raw))
+    λ l w. sym (asked_stop (c.loop-at.invariant l w) c.loop-at-test.true (sym c.allows.ensures ∙ c.if-not-allows.true))
 
 -- the size of the record
 size_is : (c : After-size_at) → c.size_at.result ≡ size_at c.args.s.now c.loop-at.at
@@ -46,7 +45,7 @@ overflow_add-at-in-loop-at-3 c = omega (arith, (here (goal.at.overflow_add-at-in
 
 again : (c : After-leap-at) (l : List ℕ) → Ahead c.args.s.now 0 l → Asking c.args.profile.now c.args.s.now l c.leap-at.result × (c.loop-at.at + c.size_at.result ≤ c.leap-at.result)
 again c l w =
-    let n = asked_next (c.loop-at.invariant l w) c.loop-at-test.true (sym c.allows.ensures ∙ not-false c.allows.result c.if-not-allows.false-raw) in
+    let n = asked_next (c.loop-at.invariant l w) c.loop-at-test.true (sym c.allows.ensures ∙ c.if-not-allows.false) in
     leaps (subst (λ (z : ℕ). Asking c.args.profile.now c.args.s.now l (c.loop-at.at + z)) (sym (size_is (goal.at.After-leap-at c).After-size_at)) n) c.requires.1 c.leap-at.ensures
 
 pub loop-at-smaller : goal.loop-at-smaller

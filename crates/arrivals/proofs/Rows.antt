@@ -19,7 +19,6 @@ use Rattle.tables.specs.Table.{Row, fault}
 use Rattle.mphr.specs.Layout.{line_start}
 use Rattle.mphr.specs.Table.{headed, timed, framed, valued, declared, total, Sums, Fine}
 use Rattle.mphr.specs.Table as M
-use Rattle.judge.specs.Table.{bad_size, bad_times, Fault, main, row}
 use Rattle.arrivals.specs.Computed.{when, line_rows, counted, sums_up, main_rows, all_over5}
 use Rattle.arrivals.proofs.Lists.{both, together, not_so, so_not, one_of, either, false_if, in_when, when_in}
 

@@ -26,7 +26,7 @@ use Rattle.record.proofs.FieldLaws.{both as parts}
 use Rattle.mphr.specs.Table.{headed, timed, declared, total}
 use Rattle.mphr.specs.Table as M
 use Rattle.mphr.proofs.Export.{fine_framed, fine_valued, sized, summed}
-use Rattle.judge.specs.Table.{Site, first, class_at, kind_at, size_at, offset_at, aim_at, Sound, one_more, next, Leads, here, on, Target, Pointer, Wrong, part_left, unknown, misplaced, bad_size, bad_times, surplus, bad_target, points_inside, points_at_other, too_few, Fault, main, at, too_long, Clean}
+use Rattle.judge.specs.Table.{Site, first, class_at, kind_at, size_at, offset_at, aim_at, Sound, one_more, next, Leads, here, on, Target, Pointer, Wrong, part_left, unknown, misplaced, bad_size, bad_times, surplus, bad_target, points_inside, points_at_other, too_few, main, at, too_long, Clean}
 use Rattle.judge.specs.declared.arrival.Extent.{Extent}
 use Rattle.judge.specs.declared.arrival.Extent.TheVariants as X
 use Rattle.judge.specs.Extent.{ExtentIs, Complete, Covered}

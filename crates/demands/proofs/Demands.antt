@@ -20,7 +20,7 @@ use Rattle.finish.specs.declared.Finished.TheVariants as F
 use Rattle.judge.proofs.WayLaws.{numbers}
 use Rattle.judge.proofs.Local.{lawful}
 use Rattle.judge.proofs.Covering.{whole_come}
-use Rattle.demands.specs.Demands.{start, Grows, Comes, Demand1, Demand2, Demand3For, Demand3}
+use Rattle.demands.specs.Demands.{start, Grows, Comes, Demand1, Demand2, Demand3}
 use Rattle.demands.proofs.Prefix.{unique_arrival, refusal_kept, refusal_final}
 use Rattle.demands.proofs.Accepted.{accepted_meets, meets_accepted}
 use Rattle.demands.proofs.Verdict.{verdict_product, product_verdict, final_verdict, final_extent}

@@ -1,5 +1,5 @@
 -- Each marked case of 01 holds: one claim over the table, by computing. Assumes nothing.
-use mathlib.Core.Path.{◌≡◌, refl}
+use mathlib.Core.Path.{refl}
 use Rattle.calendar.specs.Calendar.{date_of, leap_day}
 use Rattle.meter.specs.Time.{last_milli}
 use Rattle.meter.specs.Scaled.{is_scale}

@@ -10,7 +10,6 @@ use mathlib.Core.List.Memᴰ.{not-nil as nil}
 use mathlib.Core.List.Memᴰ.{tail as pop}
 use mathlib.Core.List.{List, [], ◌∷◌, Memᴰ as In}
 use lib.ListN.{length}
-use Rattle.calendar.specs.declared.Refusal.{Refusal}
 use Rattle.calendar.specs.Said.{refusing}
 use Rattle.mphr.proofs.Prefix.{same_refusal}
 use Rattle.tables.proofs.Laws.{not_clean}
@@ -29,7 +28,7 @@ use Rattle.demands.specs.Product.{Meets}
 use Rattle.demands.proofs.Prefix.{unique_given}
 use Rattle.demands.proofs.Demands.{demand_1}
 use Rattle.level0.specs.Profile.{Named}
-use Rattle.demands.proofs.Accepted.{meets_complete, complete_is_product, covers, accepted_meets, meets_accepted, unique_finished}
+use Rattle.demands.proofs.Accepted.{complete_is_product, covers, accepted_meets, meets_accepted, unique_finished}
 
 -- ---- the first record against a profile, in words
 split : (x : Against) (b : Bool) (i : ℕ) {y : Against} → cond b x (At i) ≡ y → ((b ≡ true) × (x ≡ y)) ⊎ ((b ≡ false) × (At i ≡ y))

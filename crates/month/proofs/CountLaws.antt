@@ -17,7 +17,6 @@ use Rattle.text.proofs.Exact.{is_small}
 use Rattle.mphr.specs.Table.{total}
 use Rattle.mphr.proofs.LineLaws.{total_is, total_number}
 use Rattle.finish.specs.Ahead.{Record, Ahead, none, more}
-use Rattle.finish.specs.Finish.{starts}
 use Rattle.finish.proofs.AheadLaws.{all_ahead}
 use Rattle.demands.specs.Product.{class, size, of_class, Meets}
 use Rattle.demands.proofs.Accept.{complete_covered}
@@ -25,7 +24,7 @@ use Rattle.demands.proofs.Accepted.{first_class, meets_complete, covers}
 use Rattle.moment.specs.Moment.{gap_between, overlap_between, undefined_between}
 use Rattle.month.specs.Report.{sum_of, records_in, bytes_in, mdrs, over_pairs, stop_to_start, gaps, overlaps, undefined_pairs, for_classes, totals, contribution}
 use Rattle.moment.specs.Pairing.{BetweenIs}
-use Rattle.month.specs.Counting.{held, with_left, PairSums, mdr_here, Paired, PairedOn}
+use Rattle.month.specs.Counting.{with_left, PairSums, mdr_here, Paired, PairedOn}
 use Rattle.moment.specs.declared.Between.{Between}
 use Rattle.month.specs.declared.count.Pairs.{Pairs}
 use Rattle.month.proofs.PlusLaws.{none_at}

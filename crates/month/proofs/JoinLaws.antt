@@ -1,7 +1,7 @@
 -- What the code answers, from what it calls. By cases on the answers. Assumes nothing.
-use Prim.Native.Nat.{ℕ, ◌+◌, ◌≤◌}
+use Prim.Native.Nat.{ℕ, ◌+◌}
 use native.Mathlib.Omega.{arith}
-use mathlib.Core.Path.{◌≡◌, refl, sym, subst}
+use mathlib.Core.Path.{◌≡◌, sym, subst}
 use mathlib.Core.List.{List, ◌∷◌}
 use lib.ListN.{set, replicate}
 use Rattle.calendar.specs.Said.{refusing}

@@ -4,12 +4,11 @@
 use Prim.Native.Nat.{ℕ, ◌+◌, ◌<◌}
 use native.Mathlib.Omega.{arith}
 use mathlib.Core.Path.{◌≡◌, refl, sym, ap, subst, ◌∙◌}
-use mathlib.Core.List.{List, [], ◌∷◌, ◌++◌, Permᴰ}
+use mathlib.Core.List.{List, ◌∷◌, ◌++◌, Permᴰ}
 use lib.ListN.{length, get_or, set, replicate, length-set}
 use lib.Seq.{get_or-set_other}
-use Rattle.month.specs.Report.{contribution, tallied, Contributes, accepted, unfit, plus, empty, Reports, none, more, Within, JoinIs, joined, past, AddIs, MergeIs, merged, over, Lent, done, next, IsIn, AllIn}
+use Rattle.month.specs.Report.{Contributes, accepted, unfit, plus, empty, Reports, none, more, Within, JoinIs, joined, past, MergeIs, merged, over, Lent, done, next, IsIn, AllIn}
 use Rattle.month.specs.declared.report.Added.{Added}
-use Rattle.month.specs.declared.report.Added.TheVariants as A
 use Rattle.month.specs.declared.report.Merged.{Merged}
 use Rattle.month.specs.declared.report.Merged.TheVariants as M
 use Rattle.month.proofs.PlusLaws.{none_at, plus_at, plus_assoc, plus_swap, plus_length, plus_empty, empty_plus, within_left}

@@ -2,17 +2,15 @@
 -- product adds one to its tally and to the products, and nothing else; the totals are those of the rows. By cases on the answers, and by the laws of
 -- sums. Assumes nothing.
 use Prim.Native.Nat.{ℕ, ◌+◌, ◌≤◌}
-use native.Mathlib.Decide.{ℕ_discrete}
 use native.Mathlib.Omega.{arith}
 use mathlib.Core.Path.{◌≡◌, refl, sym, ap, subst, ◌∙◌}
-use mathlib.Core.Bool.{cond}
 use mathlib.Core.List.{List, [], ◌∷◌}
-use lib.ListN.{length, get_or, set, replicate, length-set}
+use lib.ListN.{length, get_or, set, replicate}
 use lib.Seq.{get_or-set_same, get_or-set_other}
 use Rattle.calendar.specs.Said.{refusing}
 use Rattle.calendar.specs.declared.Refusal.{Refusal}
 use Rattle.finish.specs.Rows.{row, ordinal, rows_after, rows_of}
-use Rattle.demands.specs.Product.{size, Meets}
+use Rattle.demands.specs.Product.{size}
 use Rattle.demands.proofs.Accepted.{one_list, meets_fit, one_refused}
 use Rattle.demands.proofs.Demands.{demand_1}
 use Rattle.month.specs.Report.{sum_of, records_in, bytes_in, mdrs, contribution, tallied, Contributes, accepted, unfit, plus, empty, Within, JoinIs, joined, past, AddIs, MergeIs, merged, over, OnlyTally, size_in, over_rows, mdr_rows}

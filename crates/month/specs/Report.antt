@@ -3,7 +3,7 @@
 -- accepted products' rows; a refused product adds nothing but one to its refusal's tally. .. Refusals: 36, a 4,097th product (refused ones counted) or a
 -- total past 64 bits, place 0, the report unchanged"). A report is 38 numbers: products; records of the classes 1 to 8; bytes of them; milliseconds of
 -- gap, of overlap; pairs with an undefined time; products accepted; products refused with 1 to 17. Assumes nothing.
-use Rattle.std.specs.Prelude.{ℕ, ◌+◌, ◌≤◌, ◌<◌, ◌≡◌, cond, List, [], ◌∷◌, ◌++◌, eqb, length, get_or, set, replicate}
+use Rattle.std.specs.Prelude.{ℕ, ◌+◌, ◌≤◌, ◌<◌, ◌≡◌, cond, List, [], ◌∷◌, ◌++◌, eqb, get_or, set, replicate}
 use Rattle.calendar.specs.Said.{refusing}
 use Rattle.calendar.specs.declared.Refusal.{Refusal}
 use Rattle.meter.specs.Time.{time_at}

@@ -1,25 +1,25 @@
 -- THE ASSEMBLED LIST: a front of SPHRs in order, pointers, and records of the classes 4 to 8 in order are a product's list, where all of it is shorter
 -- than 4,294,967,296 bytes. The pointer's bytes by computing; its target by where its entry stands. Assumes nothing.
-use Prim.Native.Nat.{ℕ, zero, suc, ◌+◌, ◌*◌, ◌/◌, ◌%◌, ◌≤◌, ◌<◌}
+use Prim.Native.Nat.{ℕ, ◌+◌, ◌*◌, ◌≤◌, ◌<◌}
 use native.Mathlib.Omega.{arith}
 use mathlib.Core.Path.{◌≡◌, refl, sym, ap, ◌∙◌}
-use mathlib.Core.Bool.{Bool, true, false}
-use mathlib.Core.Logic.{◌⊎◌, inl, inr, ⊎_elim}
+use mathlib.Core.Bool.{true}
+use mathlib.Core.Logic.{⊎_elim}
 use mathlib.Core.List.Memᴰ.{append_cases as in-append}
 use mathlib.Core.List.Memᴰ.{head as top}
 use mathlib.Core.List.Memᴰ.{not-nil as nil}
 use mathlib.Core.List.Memᴰ.{tail as pop}
 use mathlib.Core.List.{List, [], ◌∷◌, ◌++◌, Memᴰ as In}
-use lib.ListN.{length, get_or}
+use lib.ListN.{length}
 use Rattle.meter.specs.Integer.{be_at}
 use Rattle.record.specs.Header.{is_class, is_group}
-use Rattle.record.specs.Follow.{first_after, may_follow}
+use Rattle.record.specs.Follow.{first_after}
 use Rattle.record.specs.Times.{timed_at}
-use Rattle.demands.specs.Product.{class, group, kind, size, target_class, target_kind, offset}
-use Rattle.parts.specs.Parts.{joined, bytes, Own, Follows, Begins, here, there, Aim, Pointed, count, Tiles}
-use Rattle.parts.specs.Pointers.{Entry, entry, kind_of, Stands, this, later, firsts, part, word, ipr, pointers, base, assembled}
+use Rattle.demands.specs.Product.{class, kind, size, target_kind, offset}
+use Rattle.parts.specs.Parts.{bytes, Own, Follows, Begins, here, there, Pointed, Tiles}
+use Rattle.parts.specs.Pointers.{Entry, kind_of, Stands, this, later, firsts, ipr, pointers, base, assembled}
 use Rattle.parts.proofs.Local.{timed_alike}
-use Rattle.parts.proofs.FollowLaws.{follow_parts, lowered, Sect, section}
+use Rattle.parts.proofs.FollowLaws.{follow_parts, lowered, section}
 use Rattle.parts.proofs.FirstsLaws.{firsts_stand, stands_in}
 
 -- ---- the pointer record, by its bytes

@@ -1,25 +1,21 @@
 -- THE TWO ARE ONE: a main header and records that are built are a product's bytes, and a product's bytes are such a header and such records. Forward and
 -- backward by induction on the list; a field of a record is the whole's by locality. Assumes nothing.
-use Prim.Native.Nat.{ℕ, zero, suc, ◌+◌, ◌≤◌, ◌<◌}
-use native.Mathlib.Nat.{add_assoc}
+use Prim.Native.Nat.{ℕ, ◌+◌, ◌≤◌}
 use native.Mathlib.Omega.{arith}
 use mathlib.Core.Path.{◌≡◌, refl, sym, ap, ◌∙◌}
-use mathlib.Core.Bool.{true, cond}
+use mathlib.Core.Bool.{true}
 use mathlib.Core.List.Memᴰ.{head as top}
 use mathlib.Core.List.Memᴰ.{not-nil as nil}
 use mathlib.Core.List.Memᴰ.{tail as pop}
 use mathlib.Core.List.{List, [], ◌∷◌, ◌++◌, Memᴰ as In}
-use lib.Dec.{eqb}
-use lib.ListN.{length, get_or, take, drop, length-append, length-take, length-drop, take-append-drop}
+use lib.ListN.{length, drop, length-append, length-drop, take-append-drop}
 use lib.Seq.{drop-drop, drop-length, length-take-le, get_or-take}
 use Rattle.tables.specs.Lawful.{Same}
-use Rattle.tables.proofs.Laws.{same_back}
-use Rattle.record.specs.Header.{is_class, is_group}
 use Rattle.record.specs.Follow.{may_follow}
-use Rattle.mphr.specs.Table.{declared, total}
-use Rattle.demands.specs.Product.{MainHeader, class, group, kind, size, target_class, target_kind, offset, IsRecord, Aims, Records, none, more, of_class, Meets}
-use Rattle.parts.specs.Parts.{joined, bytes, bytes_of, starts_from, Own, Follows, Begins, here, there, Aim, Pointed, count, Fits, Tiles, Built, main_of, record_at, records_at}
-use Rattle.parts.proofs.Local.{At, at_left, at_right, at_end, at_part, be_at_lem, class_at, group_at, kind_at_lem, size_at, timed_at_lem, target_class_at, target_kind_at, offset_at, header_on, declared_on, total_on, same_main}
+use Rattle.mphr.specs.Table.{declared}
+use Rattle.demands.specs.Product.{class, kind, size, IsRecord, Aims, Records, none, more, of_class, Meets}
+use Rattle.parts.specs.Parts.{joined, bytes, bytes_of, starts_from, Own, Follows, Begins, here, there, Aim, Pointed, count, Built, main_of, record_at, records_at}
+use Rattle.parts.proofs.Local.{At, at_left, at_right, at_end, at_part, class_at, group_at, kind_at_lem, size_at, timed_at_lem, target_class_at, target_kind_at, offset_at, header_on, declared_on, total_on, same_main}
 
 pub bytes_joined : (rs : List (List ℕ)) → length (joined rs) ≡ bytes rs
 bytes_joined [] = refl

@@ -1,22 +1,21 @@
 -- THE CUT, WHOLE (02, request Three): each line of its main header fits, so that the header with those lines fits the list, and the result is a product. The
 -- times are valid since those of the records are; the name is a text since it was one. Assumes nothing.
-use Prim.Native.Nat.{ℕ, zero, suc, ◌+◌, ◌-◌, ◌*◌, ◌/◌, ◌%◌, ◌^◌, ◌≤◌, ◌<◌}
+use Prim.Native.Nat.{ℕ, suc, ◌+◌, ◌-◌, ◌*◌, ◌/◌, ◌%◌, ◌^◌, ◌≤◌, ◌<◌}
 use native.Mathlib.Decide.{dec_lt}
 use native.Mathlib.Omega.{arith}
-use mathlib.Core.Path.{◌≡◌, refl, sym, ap, ◌∙◌}
-use mathlib.Core.Bool.{Bool, true, false, cond, not, ◌&&◌, ◌||◌}
+use mathlib.Core.Path.{◌≡◌, refl}
+use mathlib.Core.Bool.{Bool, true, false, cond, ◌&&◌}
 use mathlib.Core.List.Memᴰ.{head as top}
 use mathlib.Core.List.Memᴰ.{not-nil as nil}
 use mathlib.Core.List.Memᴰ.{tail as pop}
 use mathlib.Core.List.{List, [], ◌∷◌, ◌++◌, Memᴰ as In}
-use borrow.Author.Tests.{eq-eqb, lt-ltb, leb-true, le-leb}
-use lib.Dec.{T, eqb, leb}
-use lib.IntN.{pos}
-use lib.ListN.{length, get_or, take, drop, replicate, length-append, length-take, length-drop, length-replicate, get_or-append, get_or-eq_default}
+use borrow.Author.Tests.{eq-eqb, lt-ltb, leb-true}
+use lib.Dec.{eqb}
+use lib.ListN.{length, get_or, take, drop, replicate, length-append, length-take, length-drop, get_or-append, get_or-eq_default}
 use lib.Seq.{get_or-take, get_or-drop, get_or-append-add, length-take-le}
 use Rattle.meter.specs.Integer.{Bytes, be_at}
-use Rattle.meter.specs.Time.{last_milli, is_milli, is_time, time_of, time_at, compared}
-use Rattle.meter.specs.General.{moment_of, is_moment, put_general, put_moment, put_x, run_of, lead, fits_general}
+use Rattle.meter.specs.Time.{last_milli, is_time, time_of, time_at, compared}
+use Rattle.meter.specs.General.{moment_of, put_moment, put_x, run_of, lead, fits_general}
 use Rattle.meter.specs.declared.time.Time.{Time}
 use Rattle.meter.specs.declared.time.Time.TheVariants as T
 use Rattle.meter.specs.declared.general.General.{General}
@@ -29,20 +28,20 @@ use Rattle.meter.proofs.GeneralTime.{moment_valid}
 use Rattle.record.specs.Times.{is_after, timed_at}
 use Rattle.record.proofs.FieldLaws.{both}
 use Rattle.text.specs.Field.{is_text, is_value}
-use Rattle.text.specs.Writing.{fits_text, fits_number}
+use Rattle.text.specs.Writing.{fits_text}
 use Rattle.text.specs.declared.Number.TheVariants as N
 use Rattle.mphr.specs.Layout.{fields, widths, kinds, width_of, kind_of, line_start}
 use Rattle.mphr.specs.Table.{valued}
 use Rattle.mphr.specs.Lines.{text_fits, number_fits, time_fits, is_long}
 use Rattle.demands.specs.Product.{size, Meets}
-use Rattle.parts.specs.Parts.{bytes, bytes_of, Own, count, Fits, Tiles, Built, main_of, records_at}
-use Rattle.parts.specs.Only.{only, is_sphr}
-use Rattle.parts.specs.Cut.{Window, is_chosen, is_kept, cut_parts}
-use Rattle.parts.specs.Rewritten.{value_of, text, number, time, whole, spelling, fits_line, Rewritten, Counts, Anew, anew, values_of, count_lines, Holdable}
+use Rattle.parts.specs.Parts.{bytes, bytes_of, count, Built, main_of, records_at}
+use Rattle.parts.specs.Only.{only}
+use Rattle.parts.specs.Cut.{Window, is_chosen, cut_parts}
+use Rattle.parts.specs.Rewritten.{value_of, text, number, time, whole, spelling, fits_line, Rewritten, Anew, anew, count_lines, Holdable}
 use Rattle.parts.specs.CutHeader.{sooner, later, first_from, last_from, first_start, last_stop, to_second, stamp, renamed, sensing_start, sensing_end, other_lines, cut_values}
 use Rattle.parts.proofs.OnlyLaws.{only_in}
 use Rattle.parts.proofs.Built.{built_meets, meets_built}
-use Rattle.parts.proofs.CutLaws.{cut_tiles, cut_built}
+use Rattle.parts.proofs.CutLaws.{cut_tiles}
 use Rattle.parts.proofs.HeaderLaws.{AllFit, values_fit, counts_are, rewritten_fits}
 
 -- ---- the size and the totals

@@ -1,26 +1,24 @@
 -- THE JOIN, WHOLE (02, request Seven): each line of its main header fits, so that the header with those lines fits the list, and the result is a product.
 -- Assumes nothing.
-use Prim.Native.Nat.{ℕ, suc, ◌+◌, ◌≤◌, ◌<◌}
+use Prim.Native.Nat.{ℕ, suc, ◌+◌, ◌<◌}
 use native.Mathlib.Omega.{arith}
-use mathlib.Core.Path.{◌≡◌, refl, sym, ap, ◌∙◌}
-use mathlib.Core.Bool.{Bool, true, ◌&&◌}
-use mathlib.Core.List.{List, [], ◌∷◌, ◌++◌}
+use mathlib.Core.Path.{◌≡◌, sym, ◌∙◌}
+use mathlib.Core.Bool.{true}
+use mathlib.Core.List.{List}
 use borrow.Author.Tests.{eq-eqb}
-use lib.Dec.{eqb}
-use lib.ListN.{length, get_or, take, drop, length-append, length-take, length-drop}
+use lib.ListN.{length, take, drop, length-append, length-take, length-drop}
 use lib.Seq.{length-take-le}
 use Rattle.meter.proofs.GeneralRuns.{in_each}
-use Rattle.text.specs.Field.{is_value}
 use Rattle.text.specs.Writing.{fits_text}
 use Rattle.text.proofs.Alike.{value_alike}
 use Rattle.mphr.specs.Layout.{width_of, kind_of, line_start}
 use Rattle.mphr.specs.Table.{valued}
 use Rattle.mphr.proofs.LayoutLaws.{start_next, start_mono, start_72}
 use Rattle.demands.specs.Product.{Meets}
-use Rattle.parts.specs.Parts.{bytes, bytes_of, Fits, Tiles, Built, main_of, records_at}
+use Rattle.parts.specs.Parts.{bytes_of, Built, main_of, records_at}
 use Rattle.parts.specs.Join.{join_parts}
-use Rattle.parts.specs.Rewritten.{value_of, copied, fits_line, Rewritten, Anew, count_lines, Holdable}
-use Rattle.parts.specs.JoinHeader.{added, ended_as, join_lines, join_values, SumsFit}
+use Rattle.parts.specs.Rewritten.{value_of, copied, fits_line, Rewritten, count_lines, Holdable}
+use Rattle.parts.specs.JoinHeader.{ended_as, join_lines, join_values, SumsFit}
 use Rattle.parts.proofs.Built.{built_meets, meets_built}
 use Rattle.parts.proofs.HeaderLaws.{AllFit, values_fit, counts_are, rewritten_fits, value_like}
 use Rattle.parts.proofs.CutHeaderLaws.{counts_fit, Print, print_append, print_take, print_drop, name_line, name_long, name_prints}

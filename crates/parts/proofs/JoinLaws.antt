@@ -1,15 +1,14 @@
 -- THE JOIN IS A PRODUCT (02, request Seven), whatever header fits its list; every MDR of the two is in it once. By
 -- the law of assembled lists; the order by sections. Assumes nothing.
-use Prim.Native.Nat.{ℕ, ◌+◌, ◌≤◌, ◌<◌}
+use Prim.Native.Nat.{ℕ, ◌+◌, ◌≤◌}
 use native.Mathlib.Omega.{arith}
 use mathlib.Core.Path.{◌≡◌, refl, ap, ◌∙◌}
 use mathlib.Core.Bool.{Bool, true, false, ◌&&◌}
-use mathlib.Core.Logic.{◌⊎◌, inl, inr, ⊎_elim}
+use mathlib.Core.Logic.{⊎_elim}
 use mathlib.Core.List.Memᴰ.{append_cases as in-append}
 use mathlib.Core.List.{List, [], ◌∷◌, ◌++◌, Memᴰ as In, append-nil}
 use borrow.Author.Tests.{ne_eqb, lt-leb}
-use lib.Dec.{eqb, leb}
-use Rattle.record.specs.Follow.{first_after}
+use lib.Dec.{leb}
 use Rattle.demands.specs.Product.{class}
 use Rattle.parts.specs.Parts.{bytes, Own, Follows, Fits, Tiles, Built}
 use Rattle.parts.specs.Only.{only, is_of, is_in, is_sphr, is_global, is_variable, is_mdr}

@@ -4,13 +4,12 @@ use Prim.Native.Nat.{ℕ, zero, suc, ◌+◌, ◌-◌, ◌*◌, ◌/◌, ◌%◌
 use native.Mathlib.Decide.{dec_lt, dec_le, ℕ_discrete}
 use native.Mathlib.Omega.{arith}
 use mathlib.Core.Path.{◌≡◌, refl, sym, ap, ◌∙◌}
-use mathlib.Core.Bool.{Bool, true, false, true≢false, cond, ◌||◌}
-use mathlib.Core.Logic.{◌⊎◌, inl, inr, ⊎_elim}
+use mathlib.Core.Bool.{Bool, true, false, true≢false, cond}
 use mathlib.Core.List.Memᴰ.{head as top}
 use mathlib.Core.List.Memᴰ.{not-nil as nil}
 use mathlib.Core.List.Memᴰ.{tail as pop}
 use mathlib.Core.List.{List, [], ◌∷◌, ◌++◌, Memᴰ as In}
-use borrow.Author.Tests.{le-leb, lt-leb, lt-ltb, eq-eqb, ne_eqb, eqb-true, eqb-false}
+use borrow.Author.Tests.{le-leb, lt-leb, lt-ltb, eq-eqb, ne_eqb}
 use lib.Dec.{T, eqb, leb, ltb, ltb→lt}
 use Rattle.calendar.proofs.Range.{below, at}
 use Rattle.record.specs.Header.{is_group}
@@ -18,7 +17,7 @@ use lib.ListN.{length, get_or}
 use Rattle.meter.specs.Integer.{be_at}
 use Rattle.demands.specs.Product.{kind}
 use Rattle.parts.specs.Parts.{bytes}
-use Rattle.parts.specs.Pointers.{Entry, entry, kind_of, Stands, this, later, firsts, Ascends, AreFirsts, part, word, ipr, pointers}
+use Rattle.parts.specs.Pointers.{Entry, entry, kind_of, Stands, this, later, firsts, Ascends, AreFirsts, ipr, pointers}
 use Rattle.parts.specs.Kinds.{place_of, group_at, kind_at, ipr_to, emitted, Kinded}
 use Rattle.parts.proofs.FirstsLaws.{above, firsts_are, stands_in, stands_from}
 

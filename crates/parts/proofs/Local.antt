@@ -1,21 +1,19 @@
 -- LOCALITY: the bytes of a part stand in the whole from a place on, so a field of the part at j is the whole's at that place and j; and the main header
 -- is a matter of the first 3,307 bytes. Assumes nothing.
-use Prim.Native.Nat.{ℕ, zero, suc, ◌+◌, ◌≤◌, ◌<◌}
+use Prim.Native.Nat.{ℕ, ◌+◌, ◌≤◌, ◌<◌}
 use native.Mathlib.Omega.{arith}
-use mathlib.Core.Path.{◌≡◌, refl, sym, ap, ◌∙◌}
-use mathlib.Core.Bool.{Bool, true, false, true≢false, not, ◌&&◌}
-use mathlib.Core.Logic.{◌⊎◌, inl, inr, ⊎_elim}
-use mathlib.Core.List.{List, [], ◌∷◌, ◌++◌}
+use mathlib.Core.Path.{◌≡◌, refl, sym, ◌∙◌}
+use mathlib.Core.Bool.{Bool, true, false, true≢false}
+use mathlib.Core.Logic.{⊎_elim}
+use mathlib.Core.List.{List, ◌++◌}
 use lib.ListN.{length, get_or, take, drop, length-append, get_or-append}
 use lib.Seq.{get_or-append-add, get_or-take, get_or-drop}
 use Rattle.meter.specs.Integer.{be_at}
-use Rattle.meter.specs.Time.{is_time, time_of, time_at, compared}
-use Rattle.meter.specs.declared.time.Time.{Time}
 use Rattle.meter.proofs.IntegerLaws.{be_at_same}
-use Rattle.record.specs.Times.{is_after, timed_at}
+use Rattle.record.specs.Times.{timed_at}
 use Rattle.tables.specs.Lawful.{Same}
 use Rattle.tables.proofs.Laws.{same_back}
-use Rattle.mphr.specs.Table.{headed, timed, framed, valued, declared, total, Fault, bad_header, bad_line, bad_size, bad_totals, bad_times, bad_frame, bad_value, Fine, shown}
+use Rattle.mphr.specs.Table.{headed, timed, declared, total, Fault, bad_header, bad_line, bad_size, bad_totals, bad_times, bad_frame, bad_value, Fine}
 use Rattle.mphr.proofs.Export.{fine_framed, fine_valued, sized, summed}
 use Rattle.mphr.proofs.Prefix.{local, declared_same, total_same}
 use Rattle.mphr.proofs.TurnLaws.{shown_most}

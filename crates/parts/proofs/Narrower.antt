@@ -1,11 +1,11 @@
 -- A CUT OF A CUT (request Three): by a window that lies inside the first one, it is the cut of the original by that window. The records, since what the
 -- narrower window chooses the wider one had kept; the main header line by line, since both cuts set the same lines. Assumes nothing.
-use Prim.Native.Nat.{ℕ, ◌+◌, ◌≤◌, ◌<◌}
+use Prim.Native.Nat.{ℕ, ◌+◌, ◌≤◌}
 use native.Mathlib.Omega.{arith}
 use mathlib.Core.Path.{◌≡◌, refl, sym, ap, subst, ◌∙◌}
-use mathlib.Core.Bool.{Bool, true, false, true≢false, cond, ◌&&◌, ◌||◌}
-use mathlib.Core.List.{List, [], ◌∷◌, ◌++◌, append_assoc, Memᴰ as In}
-use borrow.Author.Tests.{ne_eqb, lt-leb}
+use mathlib.Core.Bool.{Bool, true, false, ◌&&◌, ◌||◌}
+use mathlib.Core.List.{List, ◌++◌, append_assoc, Memᴰ as In}
+use borrow.Author.Tests.{ne_eqb}
 use lib.ListN.{length, take, drop, length-append, length-drop}
 use lib.Seq.{take_at, drop_at, length-take-le}
 use Rattle.meter.specs.Time.{time_at}
@@ -16,7 +16,7 @@ use Rattle.parts.specs.Parts.{bytes_of, Built, main_of, records_at}
 use Rattle.parts.specs.Only.{only, is_sphr, is_aux, is_mdr}
 use Rattle.parts.specs.Pointers.{assembled}
 use Rattle.parts.specs.Cut.{Window, within, Inside, is_chosen, is_kept, cut_parts}
-use Rattle.parts.specs.Rewritten.{value_of, time, spelling, Rewritten, Anew, values_of, count_lines, Holdable}
+use Rattle.parts.specs.Rewritten.{value_of, time, spelling, Rewritten, values_of, count_lines, Holdable}
 use Rattle.parts.specs.CutHeader.{first_start, last_stop, to_second, stamp, renamed, sensing_start, sensing_end, other_lines, cut_values}
 use Rattle.parts.specs.TownCut.{cut_records, IsCut}
 use Rattle.parts.proofs.Built.{meets_built}

@@ -1,14 +1,13 @@
 -- THE LAWS OF A JOIN (02, request Seven), of the bytes a and b and of c, the join of the two: it is a product; its MDRs, variable records, global records
 -- and SPHR are those of the two, once each, in their order; whichever two of three are joined first, the bytes are the same. From the laws of parts.
 -- Assumes nothing.
-use Prim.Native.Nat.{ℕ, ◌+◌, ◌≤◌, ◌<◌}
+use Prim.Native.Nat.{ℕ, ◌≤◌, ◌<◌}
 use native.Mathlib.Omega.{arith}
 use mathlib.Core.Path.{◌≡◌, refl, sym, ap, subst, ◌∙◌}
 use mathlib.Core.Bool.{Bool, true, false, ◌&&◌}
-use mathlib.Core.List.{List, [], ◌∷◌, ◌++◌, append-nil, Memᴰ as In}
-use lib.ListN.{length, get_or}
+use mathlib.Core.List.{List, [], ◌++◌, append-nil, Memᴰ as In}
+use lib.ListN.{get_or}
 use Rattle.demands.specs.Product.{Meets}
-use Rattle.demands.proofs.Accepted.{one_list}
 use Rattle.parts.specs.Parts.{bytes_of, Fits, Built, main_of, records_at}
 use Rattle.parts.specs.Only.{only, is_of, is_sphr, is_global, is_variable, is_mdr}
 use Rattle.parts.specs.Pointers.{firsts, pointers, base, AreFirsts}

@@ -2,21 +2,17 @@
 -- told by what is not payload. By induction on them; a field reads the same where its bytes are. Assumes nothing.
 use Prim.Native.Nat.{ℕ, ◌+◌, ◌≤◌, ◌<◌}
 use native.Mathlib.Omega.{arith}
-use mathlib.Core.Path.{◌≡◌, refl, sym, ap, ◌∙◌}
-use mathlib.Core.Bool.{true, cond}
+use mathlib.Core.Path.{◌≡◌, refl, sym, ◌∙◌}
 use mathlib.Core.List.Memᴰ.{head as top}
-use mathlib.Core.List.Memᴰ.{not-nil as nil}
 use mathlib.Core.List.Memᴰ.{tail as pop}
 use mathlib.Core.List.{List, [], ◌∷◌, Memᴰ as In}
-use lib.Dec.{eqb}
-use lib.ListN.{length, get_or}
+use lib.ListN.{get_or}
 use Rattle.meter.specs.Integer.{be_at}
 use Rattle.meter.proofs.IntegerLaws.{be_at_same}
 use Rattle.tables.specs.Lawful.{Same}
 use Rattle.record.specs.Times.{timed_at}
 use Rattle.record.specs.Header.{header_at}
-use Rattle.mphr.specs.Table.{declared, total}
-use Rattle.demands.specs.Product.{MainHeader, class, group, kind, size, target_class, target_kind, offset, IsRecord, Aims, Records, none, more, of_class, Meets}
+use Rattle.demands.specs.Product.{class, kind, target_class, offset, IsRecord, Aims, Records, none, more, of_class, Meets}
 use Rattle.parts.specs.Payload.{Repaid}
 use Rattle.parts.proofs.Local.{timed_alike, header_on, declared_on, total_on}
 

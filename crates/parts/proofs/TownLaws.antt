@@ -15,12 +15,12 @@ use Rattle.finish.specs.Rows.{rows_of}
 use Rattle.finish.specs.Finish.{put, FinishedIs}
 use Rattle.finish.specs.declared.Finished.{Finished}
 use Rattle.finish.specs.declared.Finished.TheVariants as F
-use Rattle.demands.proofs.Accepted.{one_list, meets_accepted}
-use Rattle.parts.specs.Parts.{joined, bytes, bytes_of, Built, main_of, records_at}
+use Rattle.demands.proofs.Accepted.{meets_accepted}
+use Rattle.parts.specs.Parts.{joined, bytes, Built, main_of, records_at}
 use Rattle.parts.specs.Only.{only, is_of, is_sphr, is_aux, is_mdr}
 use Rattle.parts.specs.Pointers.{firsts, pointers, base, AreFirsts}
-use Rattle.parts.specs.Cut.{Window, Inside, is_chosen, is_kept, cut_parts}
-use Rattle.parts.specs.Rewritten.{value_of, Value, kept, spelling, Holdable}
+use Rattle.parts.specs.Cut.{Window, Inside, is_chosen, is_kept}
+use Rattle.parts.specs.Rewritten.{value_of, kept, spelling, Holdable}
 use Rattle.parts.specs.CutHeader.{first_start, last_stop, to_second, stamp, renamed, sensing_start, sensing_end, cut_values}
 use Rattle.parts.specs.TownCut.{cut_records, IsCut, Unnamed, Sensed}
 use Rattle.parts.proofs.Built.{bytes_joined, built_meets, meets_built}

@@ -1,9 +1,9 @@
 -- WHICH REFUSALS A FIELD QUERY GIVES: of the judge's it hands on 1 to 6, 10 and 15, since of 3,307 bytes or fewer no other fault of the table is shown; then 17
 -- and 22. By the table's rows: each after the first record is shown later, but for 6 and 15 at its end. Assumes nothing.
-use Prim.Native.Nat.{ℕ, zero, suc, ◌≤◌, ◌<◌}
+use Prim.Native.Nat.{ℕ, zero, suc, ◌≤◌}
 use native.Mathlib.Omega.{arith}
-use mathlib.Core.Path.{◌≡◌, refl}
-use mathlib.Core.Logic.{◌⊎◌, inl, inr}
+use mathlib.Core.Path.{refl}
+use mathlib.Core.Logic.{inl, inr}
 use mathlib.Core.List.{List, [], ◌∷◌}
 use lib.ListN.{length, take}
 use Rattle.tables.proofs.Laws.{number_is, shown_is}

@@ -3,10 +3,8 @@
 use Prim.Native.Nat.{ℕ, ◌+◌, ◌≤◌, ◌<◌}
 use native.Mathlib.Omega.{arith}
 use mathlib.Core.Path.{◌≡◌, refl, sym, ap, subst, ◌∙◌}
-use mathlib.Core.Bool.{Bool, true, false}
 use mathlib.Core.List.{List, Memᴰ as In}
 use lib.ListN.{length, take}
-use Rattle.calendar.specs.declared.Refusal.{Refusal}
 use Rattle.demands.specs.Product.{Meets}
 use Rattle.demands.proofs.Accepted.{one_list, meets_fit, one_refused}
 use Rattle.parts.specs.Parts.{bytes, starts_from, main_of, records_at, Follows}
@@ -26,9 +24,8 @@ use Rattle.compare.specs.declared.cut.Checked.{Checked}
 use Rattle.compare.specs.declared.cut.Checked.TheVariants as C
 use Rattle.compare.specs.declared.walk.Compared.{Compared}
 use Rattle.compare.specs.declared.walk.Compared.TheVariants as R
-use Rattle.bytewise.specs.Comparing.{Decides}
 use Rattle.compare.specs.Walking.{Both, Products, RecordsIs, compared_as}
-use Rattle.compare.specs.Check.{Cut, refused_at, IsCutOf, PartsCheck, is, other_field, unmatched, CheckIs, original_unfit, cut_unfit, both, NotAt, field, at_record, at_end, No}
+use Rattle.compare.specs.Check.{Cut, IsCutOf, PartsCheck, is, other_field, unmatched, CheckIs, original_unfit, cut_unfit, both, NotAt, field, at_record, at_end, No}
 use Rattle.compare.proofs.CutOfLaws.{verdict_cut, cut_verdict, cut_itself, cut_on}
 
 -- ---- of a product

@@ -1,10 +1,9 @@
 -- YES EXACTLY WHERE IT IS A CUT: the walk's verdict is the relation's, since the earliest match leaves the most (parts, `alike_agrees`, `agrees_alike`) and
 -- in a list in order the SPHR comes first; every product is a cut of itself, and a cut of a cut is a cut. Assumes nothing.
 use Prim.Native.Nat.{ℕ}
-use native.Mathlib.Omega.{arith}
 use native.Mathlib.Decide.{ℕ_discrete}
 use mathlib.Core.Path.{◌≡◌, refl, sym, ap, ◌∙◌}
-use mathlib.Core.Bool.{Bool, true, false, not, ◌&&◌, ◌||◌}
+use mathlib.Core.Bool.{Bool, true, false, ◌&&◌}
 use mathlib.Core.List.{List, [], ◌∷◌, ◌++◌}
 use borrow.Author.Tests.{ne_eqb}
 use lib.Dec.{eqb, leb}
@@ -12,9 +11,8 @@ use Rattle.demands.specs.Product.{class}
 use Rattle.parts.specs.Parts.{Follows}
 use Rattle.parts.specs.Only.{only, is_sphr, is_aux, is_mdr}
 use Rattle.parts.specs.Against.{RunThrough, done, skip, take, CutOf, alike, is_fixed, verdict}
-use Rattle.parts.specs.Pass.{FourAgree}
 use Rattle.parts.proofs.OnlyLaws.{only_only, only_same}
-use Rattle.parts.proofs.AgainstLaws.{Agrees, alike_agrees, agrees_alike, fixed_split}
+use Rattle.parts.proofs.AgainstLaws.{alike_agrees, agrees_alike, fixed_split}
 use Rattle.compare.specs.Walking.{fixed_class}
 use Rattle.compare.specs.Check.{IsCutOf}
 

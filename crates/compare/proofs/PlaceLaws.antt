@@ -6,7 +6,7 @@ use mathlib.Core.Bool.{Bool}
 use mathlib.Core.List.{List}
 use borrow.Author.Tests.{le-leb}
 use lib.ListN.{take, drop}
-use Rattle.calendar.specs.Said.{Said, answer, refused}
+use Rattle.calendar.specs.Said.{answer, refused}
 use Rattle.calendar.specs.declared.Refusal.{Refusal}
 use Rattle.mphr.specs.Layout.{width_of, kind_of, line_start, field_of, said_place}
 use Rattle.mphr.specs.declared.layout.Place.{Place}

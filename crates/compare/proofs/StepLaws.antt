@@ -3,27 +3,24 @@
 use Prim.Native.Nat.{ℕ, ◌+◌, ◌≤◌, ◌<◌}
 use native.Mathlib.Omega.{arith}
 use mathlib.Core.Path.{◌≡◌, refl, sym, ap, subst, ◌∙◌}
-use mathlib.Core.Bool.{Bool, true, false, true≢false, cond, not, ◌||◌}
+use mathlib.Core.Bool.{Bool, true, false, cond}
 use mathlib.Core.List.{List, [], ◌∷◌}
 use borrow.Author.Tests.{eq-eqb, ne_eqb}
-use lib.Dec.{eqb}
 use lib.ListN.{length, get_or, take, drop}
 use Rattle.demands.specs.Product.{class, size}
 use Rattle.parts.specs.Parts.{record_at}
-use Rattle.parts.specs.Only.{only, is_of, is_mdr}
-use Rattle.parts.specs.Against.{same, Found, nowhere, before, earliest, Verdict, alike, unlike, is_fixed, on_match, on_next, against, verdict}
+use Rattle.parts.specs.Only.{only, is_mdr}
+use Rattle.parts.specs.Against.{same, Found, before, earliest, unlike, is_fixed, on_match, on_next, against}
 use Rattle.parts.specs.Walk.{Walk}
-use Rattle.parts.proofs.WalkLaws.{Ahead, Next, next, walk_next, walk_none, ahead_size, ahead_class, one_walk}
+use Rattle.parts.proofs.WalkLaws.{Next, next, walk_next, walk_none, ahead_size, ahead_class, one_walk}
 use Rattle.parts.proofs.AgainstLaws.{same_is, same_refl}
 use Rattle.compare.specs.declared.walk.Taken.{Taken}
 use Rattle.compare.specs.declared.walk.Taken.TheVariants as K
 use Rattle.compare.specs.declared.walk.Turned.{Turned}
 use Rattle.compare.specs.declared.walk.Turned.TheVariants as U
-use Rattle.compare.specs.declared.walk.Compared.{Compared}
 use Rattle.compare.specs.declared.walk.Compared.TheVariants as R
 use Rattle.compare.specs.Comparing.{Standing}
-use Rattle.bytewise.specs.Comparing.{SameIs}
-use Rattle.compare.specs.Walking.{fixed_class, Fixing, NextIs, Seeking, Goes, TakenIs, FixedIs, EarliestIs, Left, left_verdict, Turning, GoesOn, TurnedIs, Both, RecordsIs, Comparing}
+use Rattle.compare.specs.Walking.{fixed_class, Fixing, NextIs, Seeking, FixedIs, EarliestIs, Left, left_verdict, Turning, GoesOn, TurnedIs, Both, RecordsIs, Comparing}
 use Rattle.bytewise.proofs.CompareLaws.{part_long}
 
 -- ---- the record at a byte that is left

@@ -10,12 +10,12 @@ use mathlib.Core.List.Memᴰ.{head as top}
 use mathlib.Core.List.Memᴰ.{not-nil as nil}
 use mathlib.Core.List.Memᴰ.{tail as pop}
 use mathlib.Core.List.{List, [], ◌∷◌, Memᴰ as In}
-use lib.ListN.{length, get_or, get_or-eq_default as past}
+use lib.ListN.{get_or, get_or-eq_default as past}
 use Rattle.record.specs.Follow.{may_follow}
 use Rattle.record.proofs.FollowLaws.{Follows, one_mphr}
 use Rattle.mphr.specs.Table.{declared}
 use Rattle.judge.proofs.RankLaws.{class_most}
-use Rattle.demands.specs.Product.{class, size, IsRecord, Records, none, more, Meets}
+use Rattle.demands.specs.Product.{class, size, Records, none, more, Meets}
 use Rattle.parts.specs.Payload.{Repaid}
 use Rattle.parts.proofs.PayloadLaws.{repaid_meets}
 use Rattle.payload.specs.Apart.{Bears, IsPayload, Apart}

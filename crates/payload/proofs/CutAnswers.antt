@@ -1,16 +1,15 @@
 -- WHAT THE CUT ANSWERS DOES NOT CHANGE WITH THE PAYLOAD (beyond the request): of two products that differ in payload, with the same window and the same room,
 -- the same number of bytes or the same refusal is right. What is written has as many bytes (`apart-cut`). Assumes nothing.
-use Prim.Native.Nat.{ℕ, suc, ◌+◌, ◌≤◌, ◌<◌}
+use Prim.Native.Nat.{ℕ, ◌+◌}
 use native.Mathlib.Omega.{arith}
-use mathlib.Core.Path.{◌≡◌, refl, sym, ap, subst, ◌∙◌}
-use mathlib.Core.Bool.{true}
+use mathlib.Core.Path.{◌≡◌, refl, sym, ap, subst}
 use mathlib.Core.List.{List, ◌++◌}
-use lib.ListN.{length, drop}
+use lib.ListN.{drop}
 use Rattle.meter.specs.declared.integer.Written.{Written}
 use Rattle.meter.specs.declared.integer.Written.TheVariants as W
 use Rattle.demands.specs.Product.{Meets}
 use Rattle.demands.proofs.Accepted.{complete_is_product, meets_fit}
-use Rattle.parts.specs.Parts.{bytes, bytes_of, main_of, records_at}
+use Rattle.parts.specs.Parts.{bytes_of, main_of, records_at}
 use Rattle.parts.specs.Cut.{Window, cut_parts}
 use Rattle.parts.specs.CutHeader.{cut_values}
 use Rattle.parts.specs.TownCut.{cut_records, IsCut}

@@ -4,26 +4,26 @@
 use Prim.Native.Nat.{ℕ, ◌+◌, ◌≤◌, ◌<◌}
 use native.Mathlib.Omega.{arith}
 use mathlib.Core.Path.{◌≡◌, refl, sym, ap, subst, ◌∙◌}
-use mathlib.Core.Bool.{Bool, ◌&&◌, ◌||◌}
+use mathlib.Core.Bool.{Bool, ◌||◌}
 use mathlib.Core.List.Memᴰ.{head as top}
 use mathlib.Core.List.Memᴰ.{not-nil as nil}
 use mathlib.Core.List.Memᴰ.{tail as pop}
-use mathlib.Core.List.{List, [], ◌∷◌, ◌++◌, Memᴰ as In}
-use lib.ListN.{length, get_or, take, drop, length-drop}
+use mathlib.Core.List.{List, [], ◌∷◌, Memᴰ as In}
+use lib.ListN.{length, get_or, drop, length-drop}
 use lib.Seq.{ext_get_or, length-take-le, get_or-take, get_or-drop}
 use Rattle.meter.specs.declared.time.Time.TheVariants as T
 use Rattle.mphr.specs.Table.{declared}
 use Rattle.demands.specs.Product.{class, size, Records, none, more, Meets}
 use Rattle.demands.proofs.Accepted.{one_list}
-use Rattle.parts.specs.Parts.{bytes, bytes_of, count, main_of, record_at, records_at, Built}
-use Rattle.parts.specs.Only.{only, is_of, is_in, is_sphr, is_aux, is_global, is_variable, is_mdr}
-use Rattle.parts.specs.Cut.{Window, within, is_chosen, is_kept, cut_parts}
-use Rattle.parts.specs.CutHeader.{first_start, last_stop, other_lines, cut_values}
+use Rattle.parts.specs.Parts.{bytes_of, main_of, record_at, records_at}
+use Rattle.parts.specs.Only.{is_of, is_in, is_aux}
+use Rattle.parts.specs.Cut.{Window, is_chosen, is_kept, cut_parts}
+use Rattle.parts.specs.CutHeader.{other_lines, cut_values}
 use Rattle.parts.specs.TownCut.{cut_records, IsCut}
-use Rattle.parts.specs.Join.{together, join_parts}
+use Rattle.parts.specs.Join.{join_parts}
 use Rattle.parts.specs.JoinHeader.{join_lines, join_values}
 use Rattle.parts.specs.Pass.{Joinable, IsJoin}
-use Rattle.parts.specs.Rewritten.{Value, Rewritten, Anew, values_of, count_lines, Holdable}
+use Rattle.parts.specs.Rewritten.{Rewritten, Anew, values_of, count_lines, Holdable}
 use Rattle.parts.proofs.Built.{meets_built}
 use Rattle.meter.specs.Integer.{Bytes}
 use Rattle.parts.proofs.CutHeaderLaws.{parts_byte, cut_is_built}

@@ -7,11 +7,11 @@ use native.Mathlib.Decide.{dec_le}
 use native.Mathlib.Omega.{arith}
 use mathlib.Core.Path.{◌≡◌, refl, sym, ap, subst, ◌∙◌}
 use mathlib.Core.Bool.{Bool, true, false, not, ◌||◌}
-use mathlib.Core.Logic.{◌⊎◌, inl, inr, ⊎_elim}
+use mathlib.Core.Logic.{inl, inr, ⊎_elim}
 use mathlib.Core.List.Memᴰ.{head as top}
 use mathlib.Core.List.{List, ◌∷◌, Memᴰ as In}
 use lib.Dec.{T, eqb, leb, leb→le}
-use lib.ListN.{length, get_or, take}
+use lib.ListN.{length}
 use lib.Seq.{ext_get_or, length-take-le, get_or-take}
 use borrow.Author.Tests.{eq-eqb}
 use Rattle.calendar.proofs.Range.{below, at}
@@ -21,16 +21,12 @@ use Rattle.text.proofs.Same.{field_alike}
 use Rattle.tables.specs.Lawful.{Same}
 use Rattle.tables.proofs.Laws.{same_back, not_clean}
 use Rattle.tables.proofs.Laws as G
-use Rattle.record.specs.Header.{header_at}
-use Rattle.record.specs.declared.header.Header.{Header}
 use Rattle.mphr.specs.Layout.{fields, widths, kinds, width_of, kind_of}
-use Rattle.mphr.specs.Table.{declared}
 use Rattle.judge.specs.Table.{Site, first, size_at, Sound, Leads, here, on, table, Clean, Given, Whole, Open, Judged}
 use Rattle.judge.specs.declared.arrival.Arrival.{Arrival}
 use Rattle.judge.specs.declared.arrival.Arrival.TheVariants.{Waiting, Refused}
 use Rattle.judge.proofs.Local.{lawful, leads_on, sound_on, be_on, OpenAt}
-use Rattle.judge.proofs.Local as J
-use Rattle.judge.proofs.WayLaws.{leads_le, counts, linear}
+use Rattle.judge.proofs.WayLaws.{counts, linear}
 use Rattle.query.specs.Query as Q
 use Rattle.query.specs.Query.{StartOf, RecordFound, NoRecord, not_yet, RecordIs, main_part, sort_of, times_of, sort_number, FieldOf, Denied, short, not_a_field, Allowed, value_start, PartIs, TextIs, number_in, NumberIs, time_in, TimeIs, latitude_field, point_of, PointIs}
 use Rattle.query.specs.declared.RecordAnswer.{RecordAnswer}
@@ -46,7 +42,7 @@ use Rattle.query.specs.declared.PointAnswer.TheVariants as P
 use Rattle.query.proofs.QueryLaws.{same_answer, start_small, time_read, latitude_small}
 use Rattle.query.proofs.QueryDetermined.{unique_record_at, unique_text_field, unique_number_field, unique_time_of, unique_ground_point}
 use Rattle.payload.specs.Apart.{Apart}
-use Rattle.payload.proofs.Twins.{Twins, twins, turned, same_header, same_main, same_declared, complete, long_enough, alike, sound_over, leads_over, in_way}
+use Rattle.payload.proofs.Twins.{Twins, twins, turned, same_header, same_main, complete, long_enough, alike, sound_over, leads_over, in_way}
 
 -- ---- ARRIVALS: p is what has come of a, q what has come of b, as many bytes
 pub record Come (p a : List ℕ) : Type 0 where

@@ -1,9 +1,9 @@
 -- PAYLOAD IN LISTS OF RECORDS (`Paid`): what leaves records out, sorts them by kind, points at them or counts them looks at headers alone. By induction on
 -- the two lists side by side. Assumes nothing.
-use Prim.Native.Nat.{ℕ, suc, ◌+◌, ◌*◌, ◌≤◌, ◌<◌}
+use Prim.Native.Nat.{ℕ, suc, ◌+◌, ◌≤◌, ◌<◌}
 use native.Mathlib.Omega.{arith}
 use mathlib.Core.Path.{◌≡◌, refl, sym, ap, subst, ◌∙◌}
-use mathlib.Core.Bool.{Bool, true, false, cond, ◌&&◌, ◌||◌}
+use mathlib.Core.Bool.{Bool, true, false, cond}
 use mathlib.Core.List.Memᴰ.{head as top}
 use mathlib.Core.List.Memᴰ.{not-nil as nil}
 use mathlib.Core.List.Memᴰ.{tail as pop}
@@ -13,13 +13,11 @@ use lib.ListN.{length, get_or, length-append, get_or-append}
 use Rattle.meter.specs.Integer.{be_at}
 use Rattle.meter.specs.Time.{time_at}
 use Rattle.meter.specs.declared.time.Time.{Time}
-use Rattle.meter.specs.declared.time.Time.TheVariants as T
 use Rattle.meter.proofs.IntegerLaws.{be_at_same}
-use Rattle.demands.specs.Product.{class, kind}
+use Rattle.demands.specs.Product.{class}
 use Rattle.parts.specs.Parts.{joined, bytes, bytes_of, starts_from, count, Own, Built}
 use Rattle.parts.specs.Only.{only}
-use Rattle.parts.specs.Pointers.{Entry, entry, kind_of, put, firsts, part, word, ipr, pointers, base, assembled}
-use Rattle.parts.specs.Cut.{Window, within, is_chosen}
+use Rattle.parts.specs.Pointers.{Entry, kind_of, put, firsts, part, word, ipr, pointers, base, assembled}
 use Rattle.parts.specs.CutHeader.{sooner, later, first_from, last_from}
 use Rattle.parts.specs.Payload.{Repaid}
 use Rattle.parts.proofs.Local.{At, at_left, at_right, at_end}

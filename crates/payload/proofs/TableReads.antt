@@ -4,19 +4,19 @@ use Prim.Native.Nat.{ℕ, ◌+◌, ◌≤◌, ◌<◌}
 use native.Mathlib.Nat.{le_refl}
 use native.Mathlib.Omega.{arith}
 use mathlib.Core.Path.{◌≡◌, refl, sym, ap, ◌∙◌}
-use mathlib.Core.List.{List, Memᴰ as In}
+use mathlib.Core.List.{List}
 use lib.ListN.{length, get_or}
 use Rattle.meter.specs.Integer.{be_at}
 use Rattle.meter.proofs.IntegerLaws.{be_at_same}
-use Rattle.tables.specs.Table.{Row, fault, Before}
+use Rattle.tables.specs.Table.{Row, fault}
 use Rattle.tables.specs.Lawful.{Same}
-use Rattle.tables.proofs.Laws.{same_back, shown_is}
+use Rattle.tables.proofs.Laws.{shown_is}
 use Rattle.record.specs.Times.{timed_at}
-use Rattle.mphr.specs.Table.{declared, total}
+use Rattle.mphr.specs.Table.{declared}
 use Rattle.mphr.proofs.Prefix.{fine_on}
 use Rattle.mphr.proofs.Prefix as M
 use Rattle.mphr.proofs.TurnLaws.{shown_most}
-use Rattle.judge.specs.Table.{Site, first, class_at, kind_at, size_at, aim_class, aim_at, offset_at, Sound, Leads, here, on, next, Target, Pointer, Wrong, part_left, unknown, misplaced, bad_size, bad_times, surplus, bad_target, points_inside, points_at_other, too_few, row_at, Fault, main, at, too_long, row, shown, Clean, Gives, Given}
+use Rattle.judge.specs.Table.{Site, first, class_at, kind_at, size_at, aim_class, aim_at, offset_at, Sound, Leads, here, on, Target, Pointer, Wrong, part_left, unknown, misplaced, bad_size, bad_times, surplus, bad_target, points_inside, points_at_other, too_few, row_at, Fault, main, at, too_long, row, Clean, Gives, Given}
 use Rattle.judge.proofs.RankLaws.{class_most}
 use Rattle.judge.proofs.WayLaws.{snoc}
 use Rattle.parts.proofs.Local as L

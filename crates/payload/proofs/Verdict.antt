@@ -1,31 +1,27 @@
 -- THE VERDICT DOES NOT CHANGE (02, request Eight: "It is accepted still, with the same rows"): what is right to say of the one finished product, with the same
 -- list of rows, and to list of it, in the same room, is right for the other. A row and a line are made of the header alone. Assumes nothing.
-use Prim.Native.Nat.{ℕ, suc, ◌+◌, ◌≤◌, ◌<◌}
+use Prim.Native.Nat.{ℕ, suc}
 use native.Mathlib.Omega.{arith}
 use mathlib.Core.Path.{◌≡◌, refl, sym, ap, subst, ◌∙◌}
-use mathlib.Core.Bool.{cond, ◌&&◌}
 use mathlib.Core.Logic.{⊎_elim}
 use mathlib.Core.List.Memᴰ.{head as top}
 use mathlib.Core.List.Memᴰ.{not-nil as nil}
 use mathlib.Core.List.Memᴰ.{tail as pop}
 use mathlib.Core.List.{List, [], ◌∷◌, ◌++◌, Memᴰ as In}
-use lib.Dec.{eqb}
 use lib.ListN.{length}
-use Rattle.calendar.specs.declared.Refusal.{Refusal}
 use Rattle.tables.proofs.Laws.{not_clean}
 use Rattle.mphr.specs.Layout.{bytes_of}
-use Rattle.judge.specs.Table.{class_at, Clean}
-use Rattle.judge.specs.Extent.{Short, Complete, Covered, ExtentIs}
+use Rattle.judge.specs.Table.{class_at}
+use Rattle.judge.specs.Extent.{Short, Covered, ExtentIs}
 use Rattle.judge.specs.declared.arrival.Extent.{Extent}
 use Rattle.judge.specs.declared.arrival.Extent.TheVariants as X
-use Rattle.finish.specs.Rows.{group_at, subclass_at, is_of, how_many, ordinal, row, rows_after, rows_of}
+use Rattle.finish.specs.Rows.{group_at, subclass_at, how_many, ordinal, row, rows_after, rows_of}
 use Rattle.judge.specs.Profile.{is_allowed}
 use Rattle.finish.specs.Profile.{first_against}
 use Rattle.finish.specs.Finish.{starts, put, Refuses, VerdictIs, FinishedIs, RefusesBy, against, RowsBy}
 use Rattle.finish.specs.Finish as E
 use Rattle.finish.specs.declared.Finished.{Finished}
 use Rattle.finish.specs.declared.Finished.TheVariants as F
-use Rattle.demands.specs.Product.{Meets}
 use Rattle.demands.proofs.Accept.{complete_covered}
 use Rattle.demands.proofs.Accepted.{covers, unique_finished, unique_verdict, meets_fit}
 use Rattle.level0.specs.Profile.{level0, Level0Is}
@@ -37,7 +33,6 @@ use Rattle.listing.specs.declared.Listed.{Listed}
 use Rattle.listing.specs.declared.Listed.TheVariants as B
 use Rattle.listing.proofs.Determined.{unique_list}
 use Rattle.payload.specs.Apart.{Apart}
-use Rattle.payload.proofs.ApartLaws.{apart_back}
 use Rattle.payload.proofs.Twins.{Twins, twins, turned, alike, complete}
 
 -- ---- ROWS AND LINES

@@ -1,11 +1,11 @@
 -- THE WATCH DOES NOT SEE PAYLOAD (02, request Eight: "Prove it for .. the watch of request One where it applies"): of two products that differ in payload,
 -- with at most 64 pointers, it says the same after as many bytes, and so does the arrival judge, whatever the pointers. What has come of a product shows
 -- no fault, and the walk over it is the same. Assumes nothing.
-use Prim.Native.Nat.{ℕ, ◌+◌, ◌≤◌, ◌<◌}
+use Prim.Native.Nat.{ℕ, ◌≤◌}
 use native.Mathlib.Omega.{arith}
-use mathlib.Core.Path.{◌≡◌, refl, sym, ap, subst, ◌∙◌}
+use mathlib.Core.Path.{◌≡◌, refl, sym, subst}
 use mathlib.Core.Bool.{cond}
-use mathlib.Core.List.{List, [], ◌∷◌, ◌++◌}
+use mathlib.Core.List.{List, [], ◌++◌}
 use lib.Dec.{eqb}
 use lib.ListN.{length}
 use Rattle.tables.proofs.Laws.{begins, longer}
@@ -22,7 +22,7 @@ use Rattle.watch.proofs.TableLaws.{agrees, agrees_back}
 use Rattle.watch.proofs.Laws.{unique_watched, stands_for_all, few_come}
 use Rattle.payload.specs.Apart.{Apart}
 use Rattle.payload.proofs.Twins.{Twins, turned, twins, twins_of, complete, same_total}
-use Rattle.payload.proofs.Fields.{Come, all_come, judged_over}
+use Rattle.payload.proofs.Fields.{Come, judged_over}
 
 -- what has come is the beginning
 pub come_first : (p t : List ℕ) → Come p (p ++ t)

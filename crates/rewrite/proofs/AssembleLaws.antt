@@ -10,11 +10,10 @@ use mathlib.Core.List.Memᴰ.{tail as pop}
 use mathlib.Core.List.{List, [], ◌∷◌, ◌++◌, append_assoc, Memᴰ as In}
 use borrow.Author.Tests.{eq-eqb, ne_eqb}
 use lib.Dec.{eqb}
-use lib.ListN.{length, get_or, set, take, drop, length-append, length-set}
-use lib.Seq.{sets, take_all, get_or-take, get_or-set_same, get_or-set_other}
-use Rattle.calendar.specs.declared.Refusal.{Refusal}
+use lib.ListN.{length, get_or, set, take, length-append, length-set}
+use lib.Seq.{sets, get_or-take, get_or-set_same, get_or-set_other}
 use Rattle.demands.specs.Product.{class}
-use Rattle.parts.specs.Parts.{joined, bytes, bytes_of, count, main_of}
+use Rattle.parts.specs.Parts.{joined, count, main_of}
 use Rattle.parts.specs.Pointers.{Entry, part, word, ipr, firsts, pointers, base, assembled}
 use Rattle.parts.specs.Rewritten.{Holdable}
 use Rattle.parts.specs.Kinds.{kind_at, ipr_to, emitted, Kinded}
@@ -22,12 +21,10 @@ use Rattle.parts.proofs.Built.{bytes_joined}
 use Rattle.parts.proofs.Assembled.{pointers_class, pointers_bytes, assembled_bytes}
 use Rattle.parts.proofs.CutHeaderLaws.{count_most}
 use Rattle.parts.proofs.KindLaws.{pointers_emitted}
-use Rattle.rewrite.specs.declared.plan.Plan.{Plan}
-use Rattle.rewrite.specs.declared.plan.Plan.TheVariants as P
 use Rattle.rewrite.specs.Table.{Holds, filled_to}
 use Rattle.rewrite.specs.Emitting.{table_of, pointers_from}
 use Rattle.rewrite.specs.Lining.{Totals}
-use Rattle.rewrite.specs.Assembling.{TotalsOf, with_pointers, Collected, size_of, Plannable, Unplanned, big, long, Planned, PlanOf, PlanIs}
+use Rattle.rewrite.specs.Assembling.{TotalsOf, with_pointers, Collected, size_of, Unplanned, big, long, Planned}
 use Rattle.rewrite.proofs.CopyLaws.{sets_append}
 use Rattle.rewrite.proofs.EmitLaws.{pointers_put}
 

@@ -3,22 +3,20 @@ use Prim.Native.Nat.{ℕ, suc, ◌+◌, ◌-◌, ◌≤◌, ◌<◌}
 use native.Mathlib.Decide.{ℕ_discrete}
 use native.Mathlib.Omega.{arith}
 use mathlib.Core.Path.{◌≡◌, refl, sym, ap, subst, ◌∙◌}
-use mathlib.Core.Bool.{Bool, true, false, cond}
+use mathlib.Core.Bool.{cond}
 use mathlib.Core.List.Memᴰ.{head as top}
 use mathlib.Core.List.Memᴰ.{tail as pop}
 use mathlib.Core.List.{List, [], ◌∷◌, ◌++◌, append-nil, append_assoc, Memᴰ as In}
-use borrow.Author.Tests.{eq-eqb}
 use lib.Dec.{eqb}
 use lib.ListN.{length, get_or, set, length-set, length-append}
-use Rattle.record.specs.Header.{is_group}
 use Rattle.demands.specs.Product.{class, kind, size}
-use Rattle.parts.specs.Parts.{bytes, count}
-use Rattle.parts.specs.Kinds.{place_of, kind_at}
+use Rattle.parts.specs.Parts.{bytes}
+use Rattle.parts.specs.Kinds.{kind_at}
 use Rattle.parts.specs.Walk.{Walk}
 use Rattle.parts.proofs.KindLaws.{place_snoc}
 use Rattle.parts.proofs.Local.{group_at, kind_at_lem}
 use Rattle.parts.proofs.WalkLaws.{Ahead, Next, next, walk_step, ahead_size, ahead_class, one_walk}
-use Rattle.rewrite.specs.Table.{noted, SlotOf, Holds}
+use Rattle.rewrite.specs.Table.{noted, Holds}
 use Rattle.rewrite.specs.Gathering.{Gathered, Stretch, GatherOne, GathersOne, Gatherable, Gathers, Going}
 use Rattle.rewrite.proofs.TableLaws.{noted_length, noted_place, kind_of}
 use Rattle.rewrite.proofs.SurveyLaws.{bytes_snoc, count_snoc, tally_one, most_one}

@@ -1,6 +1,6 @@
 -- THE JOIN'S ANSWERS: no second answer and no second room fit; a refusal leaves the room as it came; what is written is the join, which the
 -- verdict accepts, and then what the room held; and whichever two of three products are joined first, what is written is the same. By cases on the answers. Assumes nothing.
-use Prim.Native.Nat.{ℕ, suc, ◌+◌}
+use Prim.Native.Nat.{ℕ, suc}
 use native.Mathlib.Omega.{arith}
 use mathlib.Core.Path.{◌≡◌, refl, sym, ap, subst, ◌∙◌}
 use mathlib.Core.Bool.{Bool}

@@ -1,6 +1,6 @@
 -- THE PLAN OF A JOIN: two products are alike where their sections' records are; what is gathered of the four stretches, one after the other, is what goes into
 -- the join; and the texts that are put one after the other are the join. Assumes nothing.
-use Prim.Native.Nat.{ℕ, suc, ◌+◌, ◌-◌, ◌*◌, ◌≤◌, ◌<◌}
+use Prim.Native.Nat.{ℕ, ◌+◌, ◌-◌, ◌≤◌, ◌<◌}
 use native.Mathlib.Decide.{ℕ_discrete}
 use native.Mathlib.Omega.{arith}
 use mathlib.Core.Path.{◌≡◌, refl, sym, ap, subst, ◌∙◌}
@@ -9,11 +9,11 @@ use mathlib.Core.Logic.{⊎_elim}
 use mathlib.Core.List.Memᴰ.{append_cases as in-append}
 use mathlib.Core.List.Memᴰ.{head as top}
 use mathlib.Core.List.Memᴰ.{tail as pop}
-use mathlib.Core.List.{List, [], ◌∷◌, ◌++◌, append_assoc, append-nil, Memᴰ as In}
-use borrow.Author.Tests.{eq-eqb, ne_eqb}
+use mathlib.Core.List.{List, [], ◌∷◌, ◌++◌, append_assoc, Memᴰ as In}
+use borrow.Author.Tests.{ne_eqb}
 use lib.Dec.{eqb}
-use lib.ListN.{length, get_or, set, take, drop, replicate, length-append, length-set}
-use lib.Seq.{sets, sets-eq, take_all, length-take-le, get_or-set_same, get_or-set_other}
+use lib.ListN.{length, get_or, set, take, drop, length-append, length-set}
+use lib.Seq.{sets, sets-eq, take_all, get_or-set_same, get_or-set_other}
 use Rattle.meter.specs.declared.time.Time.{Time}
 use Rattle.meter.specs.declared.integer.Written.{Written}
 use Rattle.meter.specs.declared.integer.Written.TheVariants as W
@@ -22,11 +22,11 @@ use Rattle.demands.proofs.Accepted.{one_list}
 use Rattle.parts.specs.Parts.{joined, bytes, bytes_of, Own, count, main_of, records_at}
 use Rattle.parts.specs.Only.{only, is_sphr, is_global, is_variable, is_mdr}
 use Rattle.parts.specs.Kinds.{Kinded}
-use Rattle.parts.specs.Pointers.{firsts, pointers, base, assembled}
+use Rattle.parts.specs.Pointers.{firsts, pointers}
 use Rattle.parts.specs.Join.{seen, together, join_parts, Like}
 use Rattle.parts.specs.JoinHeader.{join_lines, join_values, SumsFit}
-use Rattle.parts.specs.Pass.{FourAgree, Alike, last_defined_stop, first_defined_start, is_late, InTime, Joinable, join_size, IsJoin}
-use Rattle.parts.specs.Rewritten.{Rewritten, Anew, values_of, count_lines, Holdable}
+use Rattle.parts.specs.Pass.{FourAgree, Alike, last_defined_stop, first_defined_start, is_late, InTime, join_size}
+use Rattle.parts.specs.Rewritten.{Rewritten, Anew, values_of, count_lines}
 use Rattle.parts.proofs.Built.{bytes_joined, meets_built}
 use Rattle.parts.proofs.OnlyLaws.{only_in}
 use Rattle.parts.proofs.Assembled.{assembled_bytes}
@@ -34,20 +34,19 @@ use Rattle.parts.proofs.CutLaws.{of_class, in_classes}
 use Rattle.meter.specs.Integer.{Bytes}
 use Rattle.parts.proofs.CutHeaderLaws.{parts_byte}
 use Rattle.rewrite.specs.declared.sections.Sections.{Sections}
-use Rattle.rewrite.specs.Table.{Holds}
 use Rattle.rewrite.specs.Emitting.{pointers_from, PutsText}
 use Rattle.rewrite.specs.Comparing.{SeenIs, Seeable}
 use Rattle.bytewise.specs.Comparing.{Decides}
 use Rattle.parts.proofs.WalkLaws.{walk_first}
-use Rattle.rewrite.specs.Sectioning.{SectionsAre, Sectionable, Sectioned}
+use Rattle.rewrite.specs.Sectioning.{Sectionable, Sectioned}
 use Rattle.rewrite.specs.Gathering.{Gathered, Stretch, Gatherable, Gathers}
-use Rattle.rewrite.specs.Assembling.{TotalsOf, Collected, size_of, Unplanned, big, long, Planned}
+use Rattle.rewrite.specs.Assembling.{TotalsOf, Collected, Unplanned, big, long, Planned}
 use Rattle.rewrite.specs.Cut.{refused_at}
 use Rattle.rewrite.specs.Join.{PartsJoin, JoinIs, unlike, out_of_time, too_much, no_room, written, both}
 use Rattle.rewrite.specs.Joining.{PutsRecords, Headers, join_lines_by, JoinHeaderFor, JoinHeaderIs, Two, Sections2, rs_of, ss_of, LikeIs, AlikeIs, Matched, MatchedIs, Gathering2, Gathers2, JoinPlanned, PutsJoin}
 use Rattle.rewrite.proofs.CopyLaws.{sets_append, part_long}
-use Rattle.bytewise.proofs.CompareLaws.{no_it_is, yes_it_is, decides_as}
-use Rattle.rewrite.proofs.AssembleLaws.{joined_append, count_append, count_none, count_all, assembled_text, pointers_text, pointers_long, totals_fit, put_together}
+use Rattle.bytewise.proofs.CompareLaws.{no_it_is, decides_as}
+use Rattle.rewrite.proofs.AssembleLaws.{joined_append, count_none, count_all, assembled_text, pointers_text, pointers_long, totals_fit, put_together}
 use Rattle.rewrite.proofs.UntimedLaws.{seen_bytes}
 use Rattle.rewrite.proofs.StretchLaws.{bytes_append, text_walk, sections_come, sphr_text, global_text, sphr_own, global_own, aux_stretch, variable_stretch, mdr_stretch, stretch_text}
 

@@ -3,25 +3,23 @@
 use Prim.Native.Nat.{ℕ, ◌+◌, ◌≤◌, ◌<◌}
 use native.Mathlib.Omega.{arith}
 use mathlib.Core.Path.{◌≡◌, refl, sym, ap, ◌∙◌}
-use mathlib.Core.Bool.{Bool, true, false, cond, not, ◌&&◌, ◌||◌}
+use mathlib.Core.Bool.{Bool, true, false, cond, ◌&&◌}
 use mathlib.Core.List.{List, [], ◌∷◌, ◌++◌}
-use borrow.Author.Tests.{eq-eqb, ne_eqb, le-leb, lt-leb}
-use lib.Dec.{eqb, leb}
+use borrow.Author.Tests.{ne_eqb, le-leb, lt-leb}
 use lib.ListN.{length, get_or, take, drop, length-append}
 use lib.Seq.{sets, length-sets}
-use Rattle.meter.specs.Integer.{be_at}
-use Rattle.meter.specs.Time.{is_time, time_of, time_at, compared}
-use Rattle.record.specs.Times.{is_after, timed_at}
+use Rattle.meter.specs.Time.{is_time, time_of, time_at}
+use Rattle.record.specs.Times.{timed_at}
 use Rattle.record.proofs.FieldLaws.{both}
-use Rattle.demands.specs.Product.{class, size}
-use Rattle.parts.specs.Parts.{joined, Own}
-use Rattle.parts.specs.Only.{only, is_aux, is_mdr}
+use Rattle.demands.specs.Product.{size}
+use Rattle.parts.specs.Parts.{joined}
+use Rattle.parts.specs.Only.{only}
 use Rattle.parts.specs.Cut.{Window, within, is_chosen, is_kept}
 use Rattle.parts.specs.Walk.{Walk}
 use Rattle.parts.proofs.Local.{be_at_lem}
 use Rattle.parts.proofs.WalkLaws.{Ahead, Next, next, walk_next, walk_none, ahead_size, ahead_class, one_walk}
 use Rattle.rewrite.specs.Keeping.{Lead, kept_at, text_at, kept_text, PutsOne, Roomy, PutsKept}
-use Rattle.rewrite.proofs.CopyLaws.{sets_append, part_long}
+use Rattle.rewrite.proofs.CopyLaws.{sets_append}
 
 -- ---- the test, by the class
 pub kept_low : (w : Window) (a : List ℕ) (i : ℕ) → get_or a i 0 < 4 → kept_at w a i ≡ false

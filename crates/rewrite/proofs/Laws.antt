@@ -16,7 +16,7 @@ use Rattle.finish.specs.declared.Finished.TheVariants as F
 use Rattle.demands.specs.Product.{Meets}
 use Rattle.demands.proofs.Accepted.{meets_fit, one_refused}
 use Rattle.demands.proofs.Verdict.{product_verdict}
-use Rattle.parts.specs.Parts.{joined, bytes, main_of, records_at}
+use Rattle.parts.specs.Parts.{joined, bytes}
 use Rattle.parts.specs.Cut.{Window, Inside, is_window}
 use Rattle.parts.specs.Rewritten.{Holdable}
 use Rattle.parts.specs.TownCut.{cut_records, IsCut}

@@ -2,21 +2,20 @@
 use Prim.Native.Nat.{ℕ, zero, suc, ◌+◌, ◌-◌, ◌*◌, ◌/◌, ◌%◌, ◌≤◌, ◌<◌, min}
 use native.Mathlib.Omega.{arith}
 use mathlib.Core.Path.{◌≡◌, refl, sym, ap, subst, ◌∙◌}
-use mathlib.Core.Bool.{Bool, true, false, cond, ◌&&◌}
+use mathlib.Core.Bool.{Bool, true, false, ◌&&◌}
 use mathlib.Core.List.{List, [], ◌∷◌, ◌++◌, append_assoc, append-nil}
 use borrow.Author.Tests.{le-leb, lt-ltb, leb-true}
 use lib.Dec.{T, eqb, eqb→eq, leb, ltb}
 use lib.IntN.{pos}
 use lib.ListN.{length, get_or, take, drop, replicate, length-append, length-take, length-drop, length-replicate, take-append-drop}
-use lib.Seq.{sets, sets-eq, length-sets, ext_get_or, get_or-take, get_or-drop, take-length, take_at, drop_at, drop-drop, length-take-le}
-use Rattle.calendar.specs.Said.{Said, answer, refused}
+use lib.Seq.{sets, sets-eq, ext_get_or, get_or-take, get_or-drop, take-length, take_at, drop_at, drop-drop, length-take-le}
+use Rattle.calendar.specs.Said.{answer, refused}
 use Rattle.calendar.specs.declared.Refusal.{Refusal}
 use Rattle.calendar.proofs.Range.{below, at}
 use Rattle.meter.specs.Lent.{wrote}
 use Rattle.meter.specs.Time.{is_time}
 use Rattle.meter.specs.General.{general_of, minute_of, moment_of, put_general, put_moment, put_digits, put_x}
 use Rattle.meter.specs.declared.general.Moment.{Moment}
-use Rattle.meter.specs.declared.general.General.TheVariants as G
 use Rattle.meter.specs.declared.time.Time.{Time}
 use Rattle.meter.specs.declared.time.Time.TheVariants as T
 use Rattle.meter.proofs.GeneralWrite.{general_length}
@@ -33,7 +32,7 @@ use Rattle.mphr.specs.declared.layout.Place.{Place}
 use Rattle.mphr.specs.declared.layout.FieldPlace.{FieldPlace}
 use Rattle.mphr.specs.declared.layout.FieldPlace.TheVariants as P
 use Rattle.mphr.proofs.LayoutLaws.{start_next, start_mono, start_72}
-use Rattle.parts.specs.Rewritten.{value_of, Value, text, time, spelling, whole, Rewritten, Anew, anew, values_of}
+use Rattle.parts.specs.Rewritten.{value_of, Value, text, time, spelling, whole, Rewritten, anew, values_of}
 use Rattle.parts.specs.CutHeader.{to_second, stamp, renamed}
 use Rattle.parts.proofs.CutHeaderLaws.{name_width, name_start}
 use Rattle.parts.proofs.Relined.{rewritten_none, rewritten_next}

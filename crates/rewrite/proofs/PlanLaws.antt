@@ -39,7 +39,7 @@ use Rattle.rewrite.specs.Emitting.{pointers_from, PutsText}
 use Rattle.rewrite.specs.Keeping.{kept_text, PutsKept}
 use Rattle.rewrite.specs.Surveying.{Found}
 use Rattle.rewrite.specs.Lining.{HeaderFor, lines_by}
-use Rattle.rewrite.specs.Assembling.{TotalsOf, Collected, Unplanned, big, long, Planned}
+use Rattle.rewrite.specs.Assembling.{TotalsOf, Collected, Unplanned, big, long}
 use Rattle.rewrite.specs.Planning.{CutPlanned, PutsCut}
 use Rattle.rewrite.specs.Cut.{refused_at, cut_size, CutIs, too_much, no_room, written}
 use Rattle.rewrite.proofs.AssembleLaws.{joined_append, assembled_text, pointers_text, pointers_long, totals_fit, put_together}

@@ -4,13 +4,13 @@ use Prim.Native.Nat.{ℕ, ◌+◌, ◌≤◌, ◌<◌}
 use native.Mathlib.Decide.{ℕ_discrete}
 use native.Mathlib.Omega.{arith}
 use mathlib.Core.Path.{◌≡◌, refl, sym, ap, subst, ◌∙◌}
-use mathlib.Core.Bool.{Bool, true, false, cond}
+use mathlib.Core.Bool.{Bool, true, false}
 use mathlib.Core.Logic.{inl, inr, ⊎_elim}
 use mathlib.Core.List.Memᴰ.{head as top}
 use mathlib.Core.List.Memᴰ.{tail as pop}
 use mathlib.Core.List.{List, [], ◌∷◌, ◌++◌, append-nil, Memᴰ as In}
 use borrow.Author.Tests.{eq-eqb, ne_eqb, le-leb, lt-leb}
-use lib.Dec.{eqb, leb}
+use lib.Dec.{eqb}
 use lib.ListN.{length, get_or}
 use Rattle.meter.specs.Integer.{be_at}
 use Rattle.meter.specs.Time.{time_at}
@@ -28,7 +28,7 @@ use Rattle.parts.proofs.OnlyLaws.{only_append, only_none, only_all}
 use Rattle.parts.proofs.WalkLaws.{Next, next, walk_next, walk_none, ahead_size, ahead_class, one_walk}
 use Rattle.rewrite.specs.declared.sections.Sections.{Sections}
 use Rattle.rewrite.specs.Keeping.{Lead}
-use Rattle.rewrite.specs.Sectioning.{Left, LeftAfter, FirstStartIs, LastStopIs, stop_at, LaterIs, Stopping, PartsOf, SectionsAre, Sectioning, FirstMdr, Sectionable, Sectioned}
+use Rattle.rewrite.specs.Sectioning.{Left, FirstStartIs, LastStopIs, stop_at, LaterIs, Stopping, PartsOf, SectionsAre, Sectioning, FirstMdr, Sectionable, Sectioned}
 use Rattle.rewrite.proofs.KeepLaws.{lead_there, start_there, stop_there}
 use Rattle.rewrite.proofs.SurveyLaws.{none_taken, one_taken, bytes_snoc, Step, step}
 

@@ -1,6 +1,6 @@
 -- THE SECTIONS AS STRETCHES: each section of a product is one stretch of its bytes, which is its records one after the other; and records by their own bytes
 -- are told by these bytes. Assumes nothing.
-use Prim.Native.Nat.{ℕ, ◌+◌, ◌-◌, ◌≤◌, ◌<◌}
+use Prim.Native.Nat.{ℕ, ◌+◌, ◌-◌, ◌≤◌}
 use native.Mathlib.Omega.{arith}
 use mathlib.Core.Path.{◌≡◌, refl, sym, ap, subst, ◌∙◌}
 use mathlib.Core.Bool.{Bool, true, false}
@@ -11,17 +11,16 @@ use mathlib.Core.List.{List, [], ◌∷◌, ◌++◌, append-nil, append_assoc, 
 use mathlib.Core.Logic.{⊎_elim}
 use borrow.Author.Tests.{ne_eqb, lt-leb, leb-true}
 use native.Mathlib.Decide.{ℕ_discrete}
-use lib.Dec.{eqb, leb}
-use lib.ListN.{length, get_or, take, drop}
+use lib.Dec.{leb}
+use lib.ListN.{length, take, drop}
 use lib.Seq.{take_at, drop_at, drop-drop}
 use Rattle.demands.specs.Product.{class, Meets}
-use Rattle.parts.specs.Parts.{joined, bytes, Own, Follows, main_of, records_at}
-use Rattle.parts.specs.Only.{only, is_of, is_in, is_sphr, is_global, is_variable, is_mdr}
+use Rattle.parts.specs.Parts.{joined, bytes, Own, records_at}
+use Rattle.parts.specs.Only.{only, is_in, is_sphr, is_global, is_variable, is_mdr}
 use Rattle.parts.specs.Walk.{Walk}
 use Rattle.parts.proofs.Built.{bytes_joined, meets_built}
 use Rattle.parts.proofs.OnlyLaws.{only_in}
 use Rattle.parts.proofs.CutLaws.{of_class, in_classes}
-use Rattle.parts.proofs.HeaderLaws.{follows_classes}
 use Rattle.parts.proofs.Sections.{only_same_in, sections}
 use Rattle.parts.proofs.WalkLaws.{walk_first, walk_length, one_walk}
 use Rattle.rewrite.specs.declared.sections.Sections.{Sections}

@@ -1,14 +1,14 @@
 -- The lines of a join: sums of two headers, of which a number is one without a sign or all x, and never both; the end time and the name, copied. The lines
 -- set anew one after the other are those of the join. Assumes nothing.
-use Prim.Native.Nat.{ℕ, zero, suc, ◌+◌, ◌-◌, ◌≤◌, ◌<◌, ◌^◌}
+use Prim.Native.Nat.{ℕ, suc, ◌+◌, ◌-◌, ◌≤◌, ◌<◌}
 use native.Mathlib.Decide.{dec_lt}
 use native.Mathlib.Nat.{pow-le-pow_right}
 use native.Mathlib.Omega.{arith}
 use mathlib.Core.Path.{◌≡◌, refl, sym, ap, subst, ◌∙◌}
-use mathlib.Core.Bool.{Bool, true, false, true≢false, cond, ◌&&◌, ◌||◌}
+use mathlib.Core.Bool.{Bool, true, false, true≢false, ◌&&◌, ◌||◌}
 use mathlib.Core.List.{List, [], ◌∷◌, ◌++◌}
-use borrow.Author.Tests.{le-leb, leb-true, ltb-true, eqb-true}
-use lib.Dec.{T, eqb, eqb→eq, leb, ltb}
+use borrow.Author.Tests.{le-leb, leb-true, ltb-true}
+use lib.Dec.{T, leb, ltb}
 use lib.IntN.{pos}
 use lib.ListN.{length, get_or, take, drop, replicate, take-append-drop}
 use lib.Seq.{sets, ext_get_or, length-take-le}
@@ -29,12 +29,12 @@ use Rattle.mphr.specs.Lines.{number_fits}
 use Rattle.mphr.specs.Table.{valued}
 use Rattle.demands.specs.Product.{MainHeader}
 use Rattle.parts.specs.JoinHeader.{added, ended_as, SumsFit}
-use Rattle.parts.specs.Rewritten.{value_of, Value, text, number, copied, whole, fits_line, spelling, Rewritten, Anew, anew, values_of}
+use Rattle.parts.specs.Rewritten.{value_of, text, number, copied, fits_line, Rewritten, anew, values_of}
 use Rattle.parts.proofs.CutHeaderLaws.{name_width, name_start}
 use Rattle.parts.proofs.Relined.{rewritten_none}
-use Rattle.rewrite.specs.Lining.{Adds, NumberFor, whole_number, number_line, Totals, total_lines}
+use Rattle.rewrite.specs.Lining.{Adds, NumberFor, whole_number, number_line, total_lines}
 use Rattle.bytewise.specs.Comparing.{Decides, SameIs}
-use Rattle.rewrite.specs.Joining.{Headers, sum_lines, end_lines, join_lines_by, JoinHeaderIs}
+use Rattle.rewrite.specs.Joining.{Headers, sum_lines, end_lines, JoinHeaderIs}
 use Rattle.rewrite.proofs.CopyLaws.{part_long}
 use Rattle.bytewise.proofs.CompareLaws.{part_at, no_it_is, yes_it_is}
 use Rattle.rewrite.proofs.LineLaws.{adds_value, line_room, whole_text, sets_whole, sets_mid, parted, width_11}

@@ -4,10 +4,10 @@ use Prim.Native.Nat.{ℕ, suc, ◌+◌, ◌≤◌, ◌<◌}
 use native.Mathlib.Decide.{ℕ_discrete}
 use native.Mathlib.Omega.{arith}
 use mathlib.Core.Path.{◌≡◌, refl, sym, ap, ◌∙◌}
-use mathlib.Core.Bool.{Bool, true, false, true≢false, cond, ◌&&◌, ◌||◌}
+use mathlib.Core.Bool.{Bool, true, false, true≢false, cond, ◌||◌}
 use mathlib.Core.List.{List, [], ◌∷◌, ◌++◌, append-nil, append_assoc}
-use borrow.Author.Tests.{eq-eqb, ne_eqb, le-leb, lt-leb}
-use lib.Dec.{eqb, leb}
+use borrow.Author.Tests.{eq-eqb, ne_eqb}
+use lib.Dec.{eqb}
 use lib.ListN.{length, get_or, set, length-set, length-append}
 use lib.Seq.{get_or-set_same, get_or-set_other}
 use Rattle.meter.specs.Time.{time_at}
@@ -16,10 +16,10 @@ use Rattle.meter.specs.declared.time.Time.TheVariants as T
 use Rattle.record.specs.Header.{is_group}
 use Rattle.demands.specs.Product.{class, kind, size}
 use Rattle.parts.specs.Parts.{bytes, count}
-use Rattle.parts.specs.Only.{only, is_sphr, is_aux, is_mdr}
-use Rattle.parts.specs.Cut.{Window, within, is_chosen, is_kept}
+use Rattle.parts.specs.Only.{only, is_sphr, is_aux}
+use Rattle.parts.specs.Cut.{Window, is_chosen, is_kept}
 use Rattle.parts.specs.CutHeader.{sooner, later, first_from, last_from, first_start, last_stop}
-use Rattle.parts.specs.Kinds.{place_of, kind_at}
+use Rattle.parts.specs.Kinds.{kind_at}
 use Rattle.parts.specs.Walk.{Walk}
 use Rattle.parts.proofs.CutLaws.{kept_range}
 use Rattle.parts.proofs.OnlyLaws.{only_append}
@@ -29,7 +29,7 @@ use Rattle.parts.proofs.WalkLaws.{Ahead, Next, next, walk_next, walk_none, ahead
 use Rattle.rewrite.specs.declared.survey.Sums.{Sums}
 use Rattle.rewrite.specs.Keeping.{Lead, kept_at}
 use Rattle.rewrite.specs.Table.{noted, SlotOf, Holds}
-use Rattle.rewrite.specs.Surveying.{Found, Below, Surveying, SurveyOne, Surveyable, Surveyed}
+use Rattle.rewrite.specs.Surveying.{Found, Below, Surveying, Surveyable, Surveyed}
 use Rattle.rewrite.proofs.TableLaws.{noted_length, noted_place, kind_of}
 use Rattle.rewrite.proofs.KeepLaws.{lead_there, kept_there, start_there, stop_there}
 

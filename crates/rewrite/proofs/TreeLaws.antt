@@ -1,7 +1,7 @@
 -- ANY TWO TREES OF JOINS over one list of granules, neither refused anywhere, write the same bytes (02, request Seven: "Where both ways of joining three products
 -- are accepted, the bytes are the same", of any number, and whichever of the two joins each is). By induction on the tree: what it writes is the pass of its
 -- granules. Assumes nothing.
-use Prim.Native.Nat.{ℕ, ◌+◌, ◌≤◌}
+use Prim.Native.Nat.{ℕ, ◌≤◌}
 use native.Mathlib.Omega.{arith}
 use mathlib.Core.Path.{◌≡◌, refl, sym, ap, subst, ◌∙◌}
 use mathlib.Core.Bool.{Bool}

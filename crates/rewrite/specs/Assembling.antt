@@ -2,7 +2,6 @@
 -- a byte of it is written, for the cut and for the join. What a function between two steps asks and promises. Assumes nothing.
 use Rattle.std.specs.Prelude.{ℕ, suc, ◌+◌, ◌≤◌, ◌<◌, ◌≡◌, length, get_or, set}
 use mathlib.Core.List.{List, Memᴰ as In}
-use Rattle.calendar.specs.declared.Refusal.{Refusal}
 use Rattle.demands.specs.Product.{class}
 use Rattle.parts.specs.Parts.{bytes, count}
 use Rattle.parts.specs.Kinds.{Kinded}

@@ -1,11 +1,10 @@
 -- Sections that go into a new product, gathered one after the other: what the table of kinds and the tally hold. What a function between two steps asks
 -- and promises. Assumes nothing.
 use Rattle.std.specs.Prelude.{ℕ, ◌+◌, ◌-◌, ◌≤◌, ◌<◌, ◌≡◌, true, length, get_or, set}
-use mathlib.Core.List.{List, [], ◌∷◌, ◌++◌, Memᴰ as In}
+use mathlib.Core.List.{List, ◌++◌, Memᴰ as In}
 use Rattle.record.specs.Header.{is_group}
 use Rattle.demands.specs.Product.{class}
 use Rattle.parts.specs.Parts.{bytes, count}
-use Rattle.parts.specs.Kinds.{kind_at}
 use Rattle.parts.specs.Walk.{Walk}
 use Rattle.rewrite.specs.Table.{noted, SlotOf, Holds}
 use Rattle.rewrite.specs.declared.gather.Reached.{Reached}

@@ -1,5 +1,5 @@
 -- What is known of a join before a byte of it is written. What a function between two steps asks and promises. Assumes nothing.
-use Rattle.std.specs.Prelude.{ℕ, zero, suc, ◌+◌, ◌≤◌, ◌<◌, ◌≡◌, Bool, true, length, get_or, take, drop}
+use Rattle.std.specs.Prelude.{ℕ, zero, suc, ◌+◌, ◌≤◌, ◌≡◌, Bool, length, get_or}
 use mathlib.Core.List.{List, [], ◌∷◌, ◌++◌, Memᴰ as In}
 use Rattle.std.proofs.lemmas.List.Edits.{sets}
 use Rattle.meter.specs.declared.integer.Written.{Written}
@@ -9,13 +9,13 @@ use Rattle.parts.specs.Only.{only, is_sphr}
 use Rattle.parts.specs.Kinds.{Kinded}
 use Rattle.parts.specs.Join.{together, join_parts, Like}
 use Rattle.parts.specs.JoinHeader.{added, ended_as, join_values, SumsFit}
-use Rattle.parts.specs.Pass.{FourAgree, Alike, InTime, join_size}
-use Rattle.parts.specs.Rewritten.{value_of, text, number, copied, whole, fits_line, Rewritten, Holdable, Anew, anew, values_of}
+use Rattle.parts.specs.Pass.{Alike, InTime}
+use Rattle.parts.specs.Rewritten.{value_of, text, number, copied, whole, Rewritten, Anew, anew, values_of}
 use Rattle.rewrite.specs.declared.sections.Sections.{Sections}
 use Rattle.rewrite.specs.Table.{Holds}
 use Rattle.bytewise.specs.Comparing.{Decides}
 use Rattle.rewrite.specs.Join.{JoinIs}
-use Rattle.rewrite.specs.Lining.{Adds, Totals, total_lines}
+use Rattle.rewrite.specs.Lining.{Totals, total_lines}
 use Rattle.rewrite.specs.Sectioning.{SectionsAre}
 use Rattle.rewrite.specs.Assembling.{Collected, Planned}
 

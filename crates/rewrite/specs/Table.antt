@@ -1,6 +1,6 @@
 -- The table of kinds, by which a pointer is found for each class, group and subclass: what stands at a kind's place is one more than the bytes
 -- before its first record among those that are taken, or 0. Assumes nothing.
-use Rattle.std.specs.Prelude.{ℕ, zero, suc, ◌+◌, ◌*◌, ◌≤◌, ◌<◌, ◌≡◌, cond, List, eqb, length, get_or, set}
+use Rattle.std.specs.Prelude.{ℕ, zero, suc, ◌+◌, ◌*◌, ◌<◌, ◌≡◌, cond, List, eqb, length, get_or, set}
 use Rattle.parts.specs.Parts.{bytes}
 use Rattle.parts.specs.Kinds.{place_of, kind_at}
 

@@ -35,7 +35,7 @@ use Rattle.parts.proofs.Built.{parts_of, meets_built}
 use Rattle.parts.proofs.Unique.{one_header}
 use Rattle.parts.proofs.Local.{At, at_right}
 use Rattle.meter.specs.Integer.{Bytes}
-use Rattle.whole.specs.Values.{Value, text, number, time, plain, pointer, Values, room, put, line_of, lines_from, main_of, rec_of, joined, print, fits, RightHeader, RightPointer, RightRec, line_in, Right}
+use Rattle.whole.specs.Values.{Value, text, number, time, plain, pointer, Values, room, put, line_of, lines_from, main_of, rec_of, joined, print, RightHeader, RightPointer, RightRec, line_in, Right}
 use Rattle.whole.specs.Spelled.{Plain, Spelled, Canonical}
 use Rattle.whole.specs.Parse.{value_at, line_at, rec_at, recs_at, parse_at}
 use Rattle.whole.proofs.Heads.{pointer_form, room_long, header_long, pointer_long}

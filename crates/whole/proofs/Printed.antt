@@ -14,7 +14,6 @@ use lib.Dec.{eqb}
 use lib.IntN.{pos, nat_abs}
 use lib.ListN.{length, get_or, length-append}
 use Rattle.calendar.specs.Said.{answer}
-use Rattle.calendar.proofs.Range.{at}
 use Rattle.meter.specs.Integer.{be_at}
 use Rattle.meter.specs.Time.{is_time, time_at, compared}
 use Rattle.meter.specs.General.{number_of}

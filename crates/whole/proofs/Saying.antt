@@ -14,7 +14,6 @@ use Rattle.record.specs.declared.header.Header.{Header}
 use Rattle.text.specs.Field.{number_at}
 use Rattle.text.specs.declared.Kind.{Kind}
 use Rattle.text.specs.declared.Kind.TheVariants.{Text, Unsigned, Count, Signed, Time, LongTime}
-use Rattle.text.specs.declared.Number.{Number}
 use Rattle.mphr.specs.Layout.{width_of, kind_of, line_start}
 use Rattle.demands.specs.Product.{class, size, Meets}
 use Rattle.demands.specs.Demands.{start}

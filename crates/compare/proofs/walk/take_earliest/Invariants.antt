@@ -1,7 +1,6 @@
 -- The invariant of the loop, and its measure.
 use Prim.Native.Nat.{◌-◌}
 use lib.ListN.{length}
-use Rattle.demands.specs.Product.{size}
 use Rattle.compare.proofs.StepLaws.{Searching}
 use Rattle.compare.proofs.walk.take_earliest.Given as goal
 

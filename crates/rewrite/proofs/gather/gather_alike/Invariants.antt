@@ -1,6 +1,5 @@
 -- The invariant of the loop, and its measure.
 use Prim.Native.Nat.{◌-◌}
-use Rattle.demands.specs.Product.{size}
 use Rattle.rewrite.proofs.GatherLaws.{Alike}
 use Rattle.rewrite.proofs.gather.gather_alike.Given as goal
 

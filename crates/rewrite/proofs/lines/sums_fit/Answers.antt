@@ -1,7 +1,6 @@
 -- `rewrite::lines::sums_fit` meets its contract: the lines before the k-th fit. Assumes nothing.
 use native.Mathlib.Omega.{arith}
 use mathlib.Core.Path.{sym, ◌∙◌}
-use mathlib.Core.Bool.{true}
 use borrow.Author.Tests.{not-true, not-false}
 use Rattle.rewrite.proofs.SumLaws.{sums_no, sums_yes, sums_more}
 use borrow.Author.Rules.{rules}

@@ -1,7 +1,6 @@
 -- The invariant of the loop, and its measure.
 use Prim.Native.Nat.{◌-◌}
 use lib.ListN.{length}
-use Rattle.demands.specs.Product.{size}
 use Rattle.rewrite.proofs.SectionLaws.{Alike}
 use Rattle.rewrite.proofs.sections.stop_alike.Given as goal
 

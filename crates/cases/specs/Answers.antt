@@ -13,22 +13,22 @@ abbrev pub values_of : ℕ → ℕ → ℕ → ℕ → ℕ → Answer
 values_of a b c d e = answer_of 0 0 (a ∷ b ∷ c ∷ d ∷ e ∷ []) true
 
 -- a refusal: its number, and its place first of the numbers
-abbrev pub refusedAs : Refusal → Bool → Answer
-refusedAs r kept = answer_of 1 r.number (r.place ∷ 0 ∷ 0 ∷ 0 ∷ 0 ∷ []) kept
+abbrev pub refused_as : Refusal → Bool → Answer
+refused_as r kept = answer_of 1 r.number (r.place ∷ 0 ∷ 0 ∷ 0 ∷ 0 ∷ []) kept
 
 -- what a writer answered: the bytes written first of the numbers, or its refusal
-abbrev pub writtenAs : Written → Bool → Answer
-writtenAs (W.Bytes n) kept = answer_of 0 0 (n ∷ 0 ∷ 0 ∷ 0 ∷ 0 ∷ []) kept
-writtenAs (W.Refused r) kept = refusedAs r kept
+abbrev pub written_as : Written → Bool → Answer
+written_as (W.Bytes n) kept = answer_of 0 0 (n ∷ 0 ∷ 0 ∷ 0 ∷ 0 ∷ []) kept
+written_as (W.Refused r) kept = refused_as r kept
 
 -- ---- the counts, 32 kinds of each, in 64 bits
-abbrev pub countsOf : List ℕ → List ℕ → Counts
-countsOf agreed disagreed = record { agreed = agreed; disagreed = disagreed }
+abbrev pub counts_of : List ℕ → List ℕ → Counts
+counts_of agreed disagreed = record { agreed = agreed; disagreed = disagreed }
 
-abbrev pub oneMore : List ℕ → ℕ → List ℕ
-oneMore l at = slice_set l at ((slice_index l at + 1) % 2 ^ 64)
+abbrev pub one_more : List ℕ → ℕ → List ℕ
+one_more l at = slice_set l at ((slice_index l at + 1) % 2 ^ 64)
 
 -- one more of the kind, among those that agreed or those that did not
-abbrev pub countedAs : Counts → ℕ → Bool → Counts
-countedAs c kind true = countsOf (oneMore c.agreed (kind % 32)) c.disagreed
-countedAs c kind false = countsOf c.agreed (oneMore c.disagreed (kind % 32))
+abbrev pub counted_as : Counts → ℕ → Bool → Counts
+counted_as c kind true = counts_of (one_more c.agreed (kind % 32)) c.disagreed
+counted_as c kind false = counts_of c.agreed (one_more c.disagreed (kind % 32))

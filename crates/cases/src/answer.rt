@@ -1,7 +1,7 @@
 // An answer, flattened, and whether it is the one that a case asks for.
 ghost use Rattle.std.specs.Prelude.{◌≡◌, ◌+◌, ◌≤◌, true, length, replicate, IfOk};
 ghost use Rattle.cases.specs.Agree.{HasValues, Agrees};
-ghost use Rattle.cases.specs.Answers.{answer_of, values_of, refusedAs, writtenAs};
+ghost use Rattle.cases.specs.Answers.{answer_of, values_of, refused_as, written_as};
 
 use crate::input::{byte, word};
 use crate::print::{name_of, number, numbers, say};
@@ -49,7 +49,7 @@ pub fn value(a: u64, b: u64, c: u64) -> Answer
 }
 
 pub fn refused(r: Refusal, kept: bool) -> Answer
-    ensures { result ≡ refusedAs r kept }
+    ensures { result ≡ refused_as r kept }
 {
     Answer {
         tag: 1,
@@ -60,7 +60,7 @@ pub fn refused(r: Refusal, kept: bool) -> Answer
 }
 
 pub fn written(w: Written, kept: bool) -> Answer
-    ensures { result ≡ writtenAs w kept }
+    ensures { result ≡ written_as w kept }
 {
     match w {
         Written::Bytes(n) => Answer {

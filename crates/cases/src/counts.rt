@@ -1,6 +1,6 @@
 // How many cases of each kind agreed, and how many did not. Kinds are below 32.
 ghost use Rattle.std.specs.Prelude.{◌≡◌, replicate};
-ghost use Rattle.cases.specs.Answers.{countsOf, countedAs};
+ghost use Rattle.cases.specs.Answers.{counts_of, counted_as};
 
 use crate::print::{name_of, number, say};
 use std::io;
@@ -13,7 +13,7 @@ pub struct Counts {
 }
 
 pub fn none() -> Counts
-    ensures { result ≡ countsOf (replicate 32 0) (replicate 32 0) }
+    ensures { result ≡ counts_of (replicate 32 0) (replicate 32 0) }
 {
     Counts {
         agreed: [0u64; 32],
@@ -22,7 +22,7 @@ pub fn none() -> Counts
 }
 
 pub fn counted(counts: Counts, kind: u8, ok: bool) -> Counts
-    ensures { result ≡ countedAs counts kind ok }
+    ensures { result ≡ counted_as counts kind ok }
 {
     let at = (kind % 32) as usize;
     let mut next = counts;

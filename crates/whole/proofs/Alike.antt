@@ -39,7 +39,7 @@ use Rattle.whole.specs.Answers.{start_of}
 use Rattle.whole.specs.Alike.{AnswersAs}
 use Rattle.whole.proofs.Parsed.{lines_length, line_in_lem, recs_length}
 use Rattle.whole.proofs.Again.{print_parse}
-use Rattle.whole.proofs.Answers.{field-allowed, time-allowed, said-starts, nth-start, nth-rec, nth-come, answers}
+use Rattle.whole.proofs.Answers.{field_allowed, time_allowed, said_starts, nth_start, nth_rec, nth_come, answers}
 
 -- ---- A RECORD THAT IS THERE IS ANSWERED
 module _ (a : List ℕ) (m : Meets a) where
@@ -93,12 +93,12 @@ together e f g = rw (e, f, g)
 -- ---- THE SAME LINES
 module _ (a b : List ℕ) (m : Meets a) (n : Meets b) (s : AnswersAs a b) where
   line_same : (d : Kind) (k : ℕ) → k < 72 → kind_of k ≡ d → value_at d a (line_start k + 32) (width_of k) ≡ value_at d b (line_start k + 32) (width_of k)
-  line_same Text k h e = ap text (s.texts k (line_start k + 32) (width_of k) (record { allowed = field-allowed a m k Text h (ap sort_of e); start_is = refl; width_is = refl }))
-  line_same Unsigned k h e = ap number (s.numbers k (B.Number (number_in a k)) (field-allowed a m k Unsigned h (ap sort_of e), refl)).1
-  line_same Count k h e = ap number (s.numbers k (B.Number (number_in a k)) (field-allowed a m k Unsigned h (ap sort_of e), refl)).1
-  line_same Signed k h e = ap number (s.numbers k (B.Number (number_in a k)) (field-allowed a m k Unsigned h (ap sort_of e), refl)).1
-  line_same Time k h e = ap time (s.times k false (T.Time (time_in a k false)) (time-allowed a m k false h (ap sort_of e), refl)).1
-  line_same LongTime k h e = ap time (s.times k true (T.Time (time_in a k true)) (time-allowed a m k true h (ap sort_of e), refl)).1
+  line_same Text k h e = ap text (s.texts k (line_start k + 32) (width_of k) (record { allowed = field_allowed a m k Text h (ap sort_of e); start_is = refl; width_is = refl }))
+  line_same Unsigned k h e = ap number (s.numbers k (B.Number (number_in a k)) (field_allowed a m k Unsigned h (ap sort_of e), refl)).1
+  line_same Count k h e = ap number (s.numbers k (B.Number (number_in a k)) (field_allowed a m k Unsigned h (ap sort_of e), refl)).1
+  line_same Signed k h e = ap number (s.numbers k (B.Number (number_in a k)) (field_allowed a m k Unsigned h (ap sort_of e), refl)).1
+  line_same Time k h e = ap time (s.times k false (T.Time (time_in a k false)) (time_allowed a m k false h (ap sort_of e), refl)).1
+  line_same LongTime k h e = ap time (s.times k true (T.Time (time_in a k true)) (time_allowed a m k true h (ap sort_of e), refl)).1
 
   lines_same : lines_at a 0 72 ≡ lines_at b 0 72
   unfolding line_at
@@ -124,11 +124,11 @@ module _ (a b : List ℕ) (m : Meets a) (n : Meets b) (s : AnswersAs a b) where
   list_same : m.list ≡ n.list
   list_same =
       ext_get_or 0 m.list n.list (omega (arith, many))
-      (λ j h. nth-start a m (suc j) (omega arith) ∙ start_same (suc j) (omega arith) ∙ sym (nth-start b n (suc j) (omega (arith, many))))
+      (λ j h. nth_start a m (suc j) (omega arith) ∙ start_same (suc j) (omega arith) ∙ sym (nth_start b n (suc j) (omega (arith, many))))
 
   module _ (bs : Bytes a) (k : ℕ) (h : k < length m.list) where
     place : get_or m.list k 0 ≡ start a (suc k)
-    place = nth-start a m (suc k) (omega arith)
+    place = nth_start a m (suc k) (omega arith)
 
     there : RecordIs a (suc k) (Record (get_or m.list k 0) (header_at a (get_or m.list k 0)))
     there = rw place (record_there a m (suc k) (omega arith))
@@ -148,8 +148,8 @@ module _ (a b : List ℕ) (m : Meets a) (n : Meets b) (s : AnswersAs a b) where
     unfolding header_at
     pointer_same c =
         let p = pointer_at a (get_or m.list k 0) in
-        let e : get_or (recs_at a m.list) k (pointer p) ≡ pointer p = nth-rec a m.list (pointer p) k h ∙ rec_pointer a (get_or m.list k 0) c in
-        let u : start_of (parse_at a m.list) (suc k) ≡ get_or m.list k 0 = ap (λ (x : List ℕ). get_or x (suc k) 0) (said-starts a m) in
+        let e : get_or (recs_at a m.list) k (pointer p) ≡ pointer p = nth_rec a m.list (pointer p) k h ∙ rec_pointer a (get_or m.list k 0) c in
+        let u : start_of (parse_at a m.list) (suc k) ≡ get_or m.list k 0 = ap (λ (x : List ℕ). get_or x (suc k) 0) (said_starts a m) in
         let q = rw u at ((answers a bs m).targets k p (omega (arith, recs_length a m.list)) e) in
         let t = s.targets (suc k) (get_or m.list k 0) (header_at a (get_or m.list k 0)) there c in
         sym (reads_answer b (get_or m.list k 0) 27 (is_pointer (pointer_at b (get_or m.list k 0))) (pointer_at b (get_or m.list k 0)) p (sym t ∙ q)).2
@@ -159,12 +159,12 @@ module _ (a b : List ℕ) (m : Meets a) (n : Meets b) (s : AnswersAs a b) where
     payload_byte c = s.payloads (suc k) (get_or m.list k 0) (header_at a (get_or m.list k 0)) there (omega arith) c
 
     come_here : get_or m.list k 0 + size a (get_or m.list k 0) ≤ length a
-    come_here = omega (arith, nth-come m.records k h, m.come)
+    come_here = omega (arith, nth_come m.records k h, m.come)
 
     come_there : get_or m.list k 0 + size a (get_or m.list k 0) ≤ length b
     come_there =
         let q : get_or n.list k 0 ≡ get_or m.list k 0 = ap (λ (l : List ℕ). get_or l k 0) (sym list_same) in
-        omega (arith, rw q at (nth-come n.records k (omega (arith, many))), size_same, n.come)
+        omega (arith, rw q at (nth_come n.records k (omega (arith, many))), size_same, n.come)
 
     payload_same : (class a (get_or m.list k 0) ≡ 3 → ⊥) → take (size a (get_or m.list k 0) - 20) (drop (get_or m.list k 0 + 20) a) ≡ take (size b (get_or m.list k 0) - 20) (drop (get_or m.list k 0 + 20) b)
     payload_same c = part_same a b (get_or m.list k 0) (size a (get_or m.list k 0)) (size b (get_or m.list k 0)) size_same come_here come_there (payload_byte c)
@@ -185,7 +185,7 @@ module _ (a b : List ℕ) (m : Meets a) (n : Meets b) (s : AnswersAs a b) where
       ext_get_or (plain (header_at a 0) []) (recs_at a m.list) (recs_at b m.list) (recs_length a m.list ∙ sym (recs_length b m.list))
       (λ k h.
       let l : k < length m.list = omega (arith, recs_length a m.list) in
-      nth-rec a m.list (plain (header_at a 0) []) k l ∙ rec_same bs k l ∙ sym (nth-rec b m.list (plain (header_at a 0) []) k l))
+      nth_rec a m.list (plain (header_at a 0) []) k l ∙ rec_same bs k l ∙ sym (nth_rec b m.list (plain (header_at a 0) []) k l))
       ∙ ap (recs_at b) list_same
 
   first_same : header_at a 0 ≡ header_at b 0

@@ -63,20 +63,20 @@ use Rattle.listing.proofs.Determined.{unique_list}
 use Rattle.meter.specs.Integer.{Bytes}
 use Rattle.whole.specs.Values.{Value, text, number, time, Rec, plain, pointer, Values, line_in, print, RightRec, RightPointer, Right}
 use Rattle.whole.specs.Parse.{value_at, line_at, rec_at, recs_at, parse_at}
-use Rattle.whole.specs.Answers.{heads, headsOf, startsFrom, start_of, ordinal, rows_from, lines_from, listed, Answers}
+use Rattle.whole.specs.Answers.{heads, heads_of, starts_from, start_of, ordinal, rows_from, lines_from, listed, Answers}
 use Rattle.whole.proofs.Parsed.{records_le, and_is, rec_head, recs_length, line_in_lem, parse_right}
 use Rattle.whole.proofs.Printed.{print_meets}
 use Rattle.whole.proofs.Back.{parse_print}
 use Rattle.whole.proofs.OfBytes.{print_bytes}
 
 -- ---- a value tells its kind
-text-sort : (d : Kind) (a : List ℕ) (i w : ℕ) (t : List ℕ) → value_at d a i w ≡ text t → (sort_of d ≡ sort_of Text) × (take w (drop i a) ≡ t)
-text-sort Text a i w t e = (refl, cc)
-text-sort Unsigned a i w t e = let z : ◌≡◌ {A = ℕ} 0 1 = cc in absurd (omega arith)
-text-sort Count a i w t e = let z : ◌≡◌ {A = ℕ} 0 1 = cc in absurd (omega arith)
-text-sort Signed a i w t e = let z : ◌≡◌ {A = ℕ} 0 1 = cc in absurd (omega arith)
-text-sort Time a i w t e = let z : ◌≡◌ {A = ℕ} 0 1 = cc in absurd (omega arith)
-text-sort LongTime a i w t e = let z : ◌≡◌ {A = ℕ} 0 1 = cc in absurd (omega arith)
+text_sort : (d : Kind) (a : List ℕ) (i w : ℕ) (t : List ℕ) → value_at d a i w ≡ text t → (sort_of d ≡ sort_of Text) × (take w (drop i a) ≡ t)
+text_sort Text a i w t e = (refl, cc)
+text_sort Unsigned a i w t e = let z : ◌≡◌ {A = ℕ} 0 1 = cc in absurd (omega arith)
+text_sort Count a i w t e = let z : ◌≡◌ {A = ℕ} 0 1 = cc in absurd (omega arith)
+text_sort Signed a i w t e = let z : ◌≡◌ {A = ℕ} 0 1 = cc in absurd (omega arith)
+text_sort Time a i w t e = let z : ◌≡◌ {A = ℕ} 0 1 = cc in absurd (omega arith)
+text_sort LongTime a i w t e = let z : ◌≡◌ {A = ℕ} 0 1 = cc in absurd (omega arith)
 
 pub same_text : (s t : List ℕ) → text s ≡ text t → s ≡ t
 same_text s t e = cc
@@ -84,198 +84,198 @@ same_text s t e = cc
 pub same_number : (x y : Number) → number x ≡ number y → x ≡ y
 same_number x y e = cc
 
-pub same-time : (x y : General) → time x ≡ time y → x ≡ y
-same-time x y e = cc
+pub same_time : (x y : General) → time x ≡ time y → x ≡ y
+same_time x y e = cc
 
-number-sort : (d : Kind) (a : List ℕ) (i w : ℕ) (x : Number) → value_at d a i w ≡ number x → (sort_of d ≡ sort_of Unsigned) × (number_at a i w ≡ x)
-number-sort Text a i w x e = let z : ◌≡◌ {A = ℕ} 0 1 = cc in absurd (omega arith)
-number-sort Unsigned a i w x e = (refl, same_number (number_at a i w) x e)
-number-sort Count a i w x e = (refl, same_number (number_at a i w) x e)
-number-sort Signed a i w x e = (refl, same_number (number_at a i w) x e)
-number-sort Time a i w x e = let z : ◌≡◌ {A = ℕ} 0 1 = cc in absurd (omega arith)
-number-sort LongTime a i w x e = let z : ◌≡◌ {A = ℕ} 0 1 = cc in absurd (omega arith)
+number_sort : (d : Kind) (a : List ℕ) (i w : ℕ) (x : Number) → value_at d a i w ≡ number x → (sort_of d ≡ sort_of Unsigned) × (number_at a i w ≡ x)
+number_sort Text a i w x e = let z : ◌≡◌ {A = ℕ} 0 1 = cc in absurd (omega arith)
+number_sort Unsigned a i w x e = (refl, same_number (number_at a i w) x e)
+number_sort Count a i w x e = (refl, same_number (number_at a i w) x e)
+number_sort Signed a i w x e = (refl, same_number (number_at a i w) x e)
+number_sort Time a i w x e = let z : ◌≡◌ {A = ℕ} 0 1 = cc in absurd (omega arith)
+number_sort LongTime a i w x e = let z : ◌≡◌ {A = ℕ} 0 1 = cc in absurd (omega arith)
 
-time-sort : (d : Kind) (a : List ℕ) (i w : ℕ) (g : General) → value_at d a i w ≡ time g → (sort_of d ≡ times_of (is_long d)) × (general_at (digits_of (is_long d)) a i ≡ g)
+time_sort : (d : Kind) (a : List ℕ) (i w : ℕ) (g : General) → value_at d a i w ≡ time g → (sort_of d ≡ times_of (is_long d)) × (general_at (digits_of (is_long d)) a i ≡ g)
 unfolding is_long
-time-sort Text a i w g e = let z : ◌≡◌ {A = ℕ} 0 1 = cc in absurd (omega arith)
-time-sort Unsigned a i w g e = let z : ◌≡◌ {A = ℕ} 0 1 = cc in absurd (omega arith)
-time-sort Count a i w g e = let z : ◌≡◌ {A = ℕ} 0 1 = cc in absurd (omega arith)
-time-sort Signed a i w g e = let z : ◌≡◌ {A = ℕ} 0 1 = cc in absurd (omega arith)
-time-sort Time a i w g e = (refl, same-time (general_at 14 a i) g e)
-time-sort LongTime a i w g e = (refl, same-time (general_at 17 a i) g e)
+time_sort Text a i w g e = let z : ◌≡◌ {A = ℕ} 0 1 = cc in absurd (omega arith)
+time_sort Unsigned a i w g e = let z : ◌≡◌ {A = ℕ} 0 1 = cc in absurd (omega arith)
+time_sort Count a i w g e = let z : ◌≡◌ {A = ℕ} 0 1 = cc in absurd (omega arith)
+time_sort Signed a i w g e = let z : ◌≡◌ {A = ℕ} 0 1 = cc in absurd (omega arith)
+time_sort Time a i w g e = (refl, same_time (general_at 14 a i) g e)
+time_sort LongTime a i w g e = (refl, same_time (general_at 17 a i) g e)
 
 -- ---- where the records start, and their headers
 head_at : (a : List ℕ) (i : ℕ) → ((header_at a i).class ≡ class_at a i) × ((header_at a i).size ≡ size_at a i)
 unfolding header_at
 head_at a i = (refl, refl)
 
-abbrev headsAt : List ℕ → List ℕ → List Header
-headsAt a [] = []
-headsAt a (i ∷ l) = header_at a i ∷ headsAt a l
+abbrev heads_at : List ℕ → List ℕ → List Header
+heads_at a [] = []
+heads_at a (i ∷ l) = header_at a i ∷ heads_at a l
 
-heads-are : (a l : List ℕ) → heads (recs_at a l) ≡ headsAt a l
-heads-are a [] = refl
-heads-are a (i ∷ l) = rw (rec_head a i, heads-are a l)
+heads_are : (a l : List ℕ) → heads (recs_at a l) ≡ heads_at a l
+heads_are a [] = refl
+heads_are a (i ∷ l) = rw (rec_head a i, heads_are a l)
 
-heads-long : (a l : List ℕ) → length (headsAt a l) ≡ length l
-heads-long a [] = refl
-heads-long a (i ∷ l) = ap suc (heads-long a l)
+heads_long : (a l : List ℕ) → length (heads_at a l) ≡ length l
+heads_long a [] = refl
+heads_long a (i ∷ l) = ap suc (heads_long a l)
 
-heads-nth : (a l : List ℕ) (d : Header) (k : ℕ) → k < length l → get_or (headsAt a l) k d ≡ header_at a (get_or l k 0)
-heads-nth a [] d k h = absurd (omega arith)
-heads-nth a (i ∷ l) d zero h = refl
-heads-nth a (i ∷ l) d (suc k) h = heads-nth a l d k (omega arith)
+heads_nth : (a l : List ℕ) (d : Header) (k : ℕ) → k < length l → get_or (heads_at a l) k d ≡ header_at a (get_or l k 0)
+heads_nth a [] d k h = absurd (omega arith)
+heads_nth a (i ∷ l) d zero h = refl
+heads_nth a (i ∷ l) d (suc k) h = heads_nth a l d k (omega arith)
 
 -- l are the starts of what follows i
 data Chain (a : List ℕ) : ℕ → List ℕ → Type 0 where
   stop : {i : ℕ} → Chain a i []
   step : {i : ℕ} {l : List ℕ} → Chain a (i + size a i) l → Chain a i (i ∷ l)
 
-chain-of : {a : List ℕ} {i p : ℕ} {l : List ℕ} → Records a i p l → Chain a i l
-chain-of (none e) = stop
-chain-of (more r m ts) = step (chain-of ts)
+chain_of : {a : List ℕ} {i p : ℕ} {l : List ℕ} → Records a i p l → Chain a i l
+chain_of (none e) = stop
+chain_of (more r m ts) = step (chain_of ts)
 
-chain-starts : {a : List ℕ} {i : ℕ} {l : List ℕ} → Chain a i l → startsFrom i (headsAt a l) ≡ l
-chain-starts stop = refl
-chain-starts {a} (step {i = i} {l = l} c) = ap (λ (n : ℕ). i ∷ startsFrom (i + n) (headsAt a l)) (head_at a i).1 ∙ ap (λ (s : List ℕ). i ∷ s) (chain-starts c)
+chain_starts : {a : List ℕ} {i : ℕ} {l : List ℕ} → Chain a i l → starts_from i (heads_at a l) ≡ l
+chain_starts stop = refl
+chain_starts {a} (step {i = i} {l = l} c) = ap (λ (n : ℕ). i ∷ starts_from (i + n) (heads_at a l)) (head_at a i).1 ∙ ap (λ (s : List ℕ). i ∷ s) (chain_starts c)
 
-chain-nth : {a : List ℕ} {i : ℕ} {l : List ℕ} → Chain a i l → (n : ℕ) → start a n ≡ i → (j : ℕ) → j < length l → get_or l j 0 ≡ start a (n + j)
+chain_nth : {a : List ℕ} {i : ℕ} {l : List ℕ} → Chain a i l → (n : ℕ) → start a n ≡ i → (j : ℕ) → j < length l → get_or l j 0 ≡ start a (n + j)
 unfolding start
-chain-nth stop n e j h = absurd (omega arith)
-chain-nth {a} (step c) n e zero h = let z : n + 0 ≡ n = omega arith in rw z (sym e)
-chain-nth {a} (step {i = i} c) n e (suc j) h =
+chain_nth stop n e j h = absurd (omega arith)
+chain_nth {a} (step c) n e zero h = let z : n + 0 ≡ n = omega arith in rw z (sym e)
+chain_nth {a} (step {i = i} c) n e (suc j) h =
     let z : suc n + j ≡ n + suc j = omega arith in
-    rw z at (chain-nth c (suc n) (ap (λ (s : ℕ). s + size a s) e) j (omega arith))
+    rw z at (chain_nth c (suc n) (ap (λ (s : ℕ). s + size a s) e) j (omega arith))
 
 -- ---- the rows
-count-is : (a : List ℕ) (i : ℕ) (l : List ℕ) → ordinal (header_at a i) (headsAt a l) ≡ Rows.ordinal a l i
+count_is : (a : List ℕ) (i : ℕ) (l : List ℕ) → ordinal (header_at a i) (heads_at a l) ≡ Rows.ordinal a l i
 unfolding header_at
-count-is a i [] = refl
-count-is a i (j ∷ l) = rw (count-is a i l)
+count_is a i [] = refl
+count_is a i (j ∷ l) = rw (count_is a i l)
 
-chain-rows : {a : List ℕ} {i : ℕ} {l : List ℕ} → (before : List ℕ) → Chain a i l → rows_from (headsAt a before) i (headsAt a l) ≡ rows_after a before l
+chain_rows : {a : List ℕ} {i : ℕ} {l : List ℕ} → (before : List ℕ) → Chain a i l → rows_from (heads_at a before) i (heads_at a l) ≡ rows_after a before l
 unfolding header_at
-chain-rows before stop = refl
-chain-rows {a} before (step {i = i} {l = l} c) = rw (count-is a i before, chain-rows (i ∷ before) c)
+chain_rows before stop = refl
+chain_rows {a} before (step {i = i} {l = l} c) = rw (count_is a i before, chain_rows (i ∷ before) c)
 
 -- ---- the listing
-chain-lines : {a : List ℕ} {i : ℕ} {l : List ℕ} → Chain a i l → lines_from i (headsAt a l) ≡ lines a l
+chain_lines : {a : List ℕ} {i : ℕ} {l : List ℕ} → Chain a i l → lines_from i (heads_at a l) ≡ lines a l
 unfolding header_at lines line
-chain-lines stop = refl
-chain-lines {a} (step {i = i} {l = l} c) = rw (chain-lines c)
+chain_lines stop = refl
+chain_lines {a} (step {i = i} {l = l} c) = rw (chain_lines c)
 
 -- ---- OF A PRODUCT
 module _ (a : List ℕ) (m : Meets a) where
-  pub field-allowed : (k : ℕ) (d : Kind) → k < 72 → sort_of (kind_of k) ≡ sort_of d → Allowed a k (sort_of d)
-  field-allowed k d h e = record { clean = main_clean m; come = come m; field = record { known = omega arith; sorted = e } }
+  pub field_allowed : (k : ℕ) (d : Kind) → k < 72 → sort_of (kind_of k) ≡ sort_of d → Allowed a k (sort_of d)
+  field_allowed k d h e = record { clean = main_clean m; come = come m; field = record { known = omega arith; sorted = e } }
 
-  pub time-allowed : (k : ℕ) (long : Bool) → k < 72 → sort_of (kind_of k) ≡ times_of long → Allowed a k (times_of long)
-  time-allowed k long h e = record { clean = main_clean m; come = come m; field = record { known = omega arith; sorted = e } }
+  pub time_allowed : (k : ℕ) (long : Bool) → k < 72 → sort_of (kind_of k) ≡ times_of long → Allowed a k (times_of long)
+  time_allowed k long h e = record { clean = main_clean m; come = come m; field = record { known = omega arith; sorted = e } }
 
-  line-is : (k : ℕ) → k < 72 → (x : Value) → line_in (parse_at a m.list) k ≡ x → value_at (kind_of k) a (line_start k + 32) (width_of k) ≡ x
+  line_is : (k : ℕ) → k < 72 → (x : Value) → line_in (parse_at a m.list) k ≡ x → value_at (kind_of k) a (line_start k + 32) (width_of k) ≡ x
   unfolding line_at
-  line-is k h x e = sym (line_in_lem a m.list k h) ∙ e
+  line_is k h x e = sym (line_in_lem a m.list k h) ∙ e
 
   texts : (k : ℕ) (t : List ℕ) → k < 72 → line_in (parse_at a m.list) k ≡ text t → (r : FieldAnswer) → TextIs a k r → (r ≡ Part (value_start k) (width_of k)) × (take (width_of k) (drop (value_start k) a) ≡ t)
   texts k t h e r f =
-      let s = text-sort (kind_of k) a (line_start k + 32) (width_of k) t (line-is k h (text t) e) in
-      (unique_text_field a k r (Part (value_start k) (width_of k)) f (record { allowed = field-allowed k Text h s.0; start_is = refl; width_is = refl }), s.1)
+      let s = text_sort (kind_of k) a (line_start k + 32) (width_of k) t (line_is k h (text t) e) in
+      (unique_text_field a k r (Part (value_start k) (width_of k)) f (record { allowed = field_allowed k Text h s.0; start_is = refl; width_is = refl }), s.1)
 
   numbers : (k : ℕ) (x : Number) → k < 72 → line_in (parse_at a m.list) k ≡ number x → (r : NumberAnswer) → NumberIs a k r → r ≡ B.Number x
   numbers k x h e r f =
-      let s = number-sort (kind_of k) a (line_start k + 32) (width_of k) x (line-is k h (number x) e) in
-      unique_number_field a k r (B.Number x) f (field-allowed k Unsigned h s.0, sym s.1)
+      let s = number_sort (kind_of k) a (line_start k + 32) (width_of k) x (line_is k h (number x) e) in
+      unique_number_field a k r (B.Number x) f (field_allowed k Unsigned h s.0, sym s.1)
 
   times : (k : ℕ) (g : General) → k < 72 → line_in (parse_at a m.list) k ≡ time g → (r : TimeAnswer) → TimeIs a k (is_long (kind_of k)) r → r ≡ T.Time g
   times k g h e r f =
-      let s = time-sort (kind_of k) a (line_start k + 32) (width_of k) g (line-is k h (time g) e) in
-      unique_time_of a k (is_long (kind_of k)) r (T.Time g) f (time-allowed k (is_long (kind_of k)) h s.0, sym s.1)
+      let s = time_sort (kind_of k) a (line_start k + 32) (width_of k) g (line_is k h (time g) e) in
+      unique_time_of a k (is_long (kind_of k)) r (T.Time g) f (time_allowed k (is_long (kind_of k)) h s.0, sym s.1)
 
-  latitude-small : (end : Bool) → latitude_field end + 1 < 72
-  latitude-small true = omega arith
-  latitude-small false = omega arith
+  latitude_small : (end : Bool) → latitude_field end + 1 < 72
+  latitude_small true = omega arith
+  latitude_small false = omega arith
 
-  point-found : (end : Bool) (x y : Number) → PointFound a end (point_of x y) → PointIs a end (point_of x y)
-  point-found end N.Undefined y f = f
-  point-found end (N.Whole x) N.Undefined f = f
-  point-found end (N.Whole x) (N.Whole y) f = f
+  point_found : (end : Bool) (x y : Number) → PointFound a end (point_of x y) → PointIs a end (point_of x y)
+  point_found end N.Undefined y f = f
+  point_found end (N.Whole x) N.Undefined f = f
+  point_found end (N.Whole x) (N.Whole y) f = f
 
   points : (end : Bool) (x y : Number) → line_in (parse_at a m.list) (latitude_field end) ≡ number x → line_in (parse_at a m.list) (latitude_field end + 1) ≡ number y → (r : PointAnswer) → PointIs a end r → r ≡ point_of x y
   points end x y e f r q =
       let k = latitude_field end in
-      let h = latitude-small end in
-      let s = number-sort (kind_of k) a (line_start k + 32) (width_of k) x (line-is k (omega arith) (number x) e) in
-      let t = number-sort (kind_of (k + 1)) a (line_start (k + 1) + 32) (width_of (k + 1)) y (line-is (k + 1) h (number y) f) in
+      let h = latitude_small end in
+      let s = number_sort (kind_of k) a (line_start k + 32) (width_of k) x (line_is k (omega arith) (number x) e) in
+      let t = number_sort (kind_of (k + 1)) a (line_start (k + 1) + 32) (width_of (k + 1)) y (line_is (k + 1) h (number y) f) in
       let p : point_of x y ≡ point_of (number_in a k) (number_in a (k + 1)) = ap (λ (z : Number). point_of z y) (sym s.1) ∙ ap (point_of (number_in a k)) (sym t.1) in
-      unique_ground_point a end r (point_of x y) q (point-found end x y (record { allowed = field-allowed k Unsigned (omega arith) s.0; point = p }))
+      unique_ground_point a end r (point_of x y) q (point_found end x y (record { allowed = field_allowed k Unsigned (omega arith) s.0; point = p }))
 
   -- the records
-  first-size : size a 0 ≡ 3307
-  first-size = main_size a m.header.header
+  first_size : size a 0 ≡ 3307
+  first_size = main_size a m.header.header
 
   chain : Chain a 0 (0 ∷ m.list)
-  chain = let e : 0 + size a 0 ≡ 3307 = omega (arith, first-size) in step {i = 0} {l = m.list} (rw e (chain-of m.records))
+  chain = let e : 0 + size a 0 ≡ 3307 = omega (arith, first_size) in step {i = 0} {l = m.list} (rw e (chain_of m.records))
 
-  said-heads : headsOf (parse_at a m.list) ≡ headsAt a (0 ∷ m.list)
-  said-heads = ap (λ (l : List Header). header_at a 0 ∷ l) (heads-are a m.list)
+  said_heads : heads_of (parse_at a m.list) ≡ heads_at a (0 ∷ m.list)
+  said_heads = ap (λ (l : List Header). header_at a 0 ∷ l) (heads_are a m.list)
 
-  said-count : length (headsOf (parse_at a m.list)) ≡ suc (length m.list)
-  said-count = ap length said-heads ∙ heads-long a (0 ∷ m.list)
+  said_count : length (heads_of (parse_at a m.list)) ≡ suc (length m.list)
+  said_count = ap length said_heads ∙ heads_long a (0 ∷ m.list)
 
-  pub said-starts : startsFrom 0 (headsOf (parse_at a m.list)) ≡ 0 ∷ m.list
-  said-starts = ap (startsFrom 0) said-heads ∙ chain-starts chain
+  pub said_starts : starts_from 0 (heads_of (parse_at a m.list)) ≡ 0 ∷ m.list
+  said_starts = ap (starts_from 0) said_heads ∙ chain_starts chain
 
-  pub nth-start : (k : ℕ) → k < suc (length m.list) → get_or (0 ∷ m.list) k 0 ≡ start a k
+  pub nth_start : (k : ℕ) → k < suc (length m.list) → get_or (0 ∷ m.list) k 0 ≡ start a k
   unfolding start
-  nth-start k h = let z : 0 + k ≡ k = omega arith in rw z at (chain-nth chain 0 refl k h)
+  nth_start k h = let z : 0 + k ≡ k = omega arith in rw z at (chain_nth chain 0 refl k h)
 
-  records : (k : ℕ) → k < length (headsOf (parse_at a m.list)) → (r : RecordAnswer) → RecordIs a k r → r ≡ Record (start_of (parse_at a m.list) k) (get_or (headsOf (parse_at a m.list)) k (header_at a 0))
+  records : (k : ℕ) → k < length (heads_of (parse_at a m.list)) → (r : RecordAnswer) → RecordIs a k r → r ≡ Record (start_of (parse_at a m.list) k) (get_or (heads_of (parse_at a m.list)) k (header_at a 0))
   records k h r q =
       let c = complete_covered (meets_complete m) in
       let w = covers m c.1 in
       let blank : List (List ℕ) = replicate c.0 [] in
       let n : length blank ≡ c.0 = length-replicate {A = List ℕ} c.0 [] in
       let f : Accepts a blank c.0 (put 0 (rows_of a (0 ∷ starts c.1.way)) blank) = record { complete = meets_complete m; filled = record { covered = c.1; fits = omega arith; index = refl } } in
-      let l : k < suc (length m.list) = omega (arith, said-count) in
+      let l : k < suc (length m.list) = omega (arith, said_count) in
       let u : k < c.0 = omega (arith, w.0) in
       let s = indexed (meets_complete m) f.filled k u in
-      let t : start a k ≡ start_of (parse_at a m.list) k = sym (nth-start k l) ∙ ap (λ (x : List ℕ). get_or x k 0) (sym said-starts) in
-      let g : header_at a (start a k) ≡ get_or (headsOf (parse_at a m.list)) k (header_at a 0) = ap (header_at a) (sym (nth-start k l)) ∙ sym (heads-nth a (0 ∷ m.list) (header_at a 0) k l) ∙ ap (λ (x : List Header). get_or x k (header_at a 0)) (sym said-heads) in
+      let t : start a k ≡ start_of (parse_at a m.list) k = sym (nth_start k l) ∙ ap (λ (x : List ℕ). get_or x k 0) (sym said_starts) in
+      let g : header_at a (start a k) ≡ get_or (heads_of (parse_at a m.list)) k (header_at a 0) = ap (header_at a) (sym (nth_start k l)) ∙ sym (heads_nth a (0 ∷ m.list) (header_at a 0) k l) ∙ ap (λ (x : List Header). get_or x k (header_at a 0)) (sym said_heads) in
       query_says f k u r q
       ∙ ap (λ (i : ℕ). Record i (header_at a i)) s
       ∙ ap (λ (x : Header). Record (start a k) x) g
-      ∙ ap (λ (i : ℕ). Record i (get_or (headsOf (parse_at a m.list)) k (header_at a 0))) t
+      ∙ ap (λ (i : ℕ). Record i (get_or (heads_of (parse_at a m.list)) k (header_at a 0))) t
 
-  verdict : (r : Finished) → VerdictIs a r → r ≡ Accepted (length (headsOf (parse_at a m.list)))
+  verdict : (r : Finished) → VerdictIs a r → r ≡ Accepted (length (heads_of (parse_at a m.list)))
   verdict r f =
       let c = complete_covered (meets_complete m) in
-      unique_verdict a r (Accepted c.0) f (meets_complete m, c.1) ∙ ap Accepted ((covers m c.1).0 ∙ sym said-count)
+      unique_verdict a r (Accepted c.0) f (meets_complete m, c.1) ∙ ap Accepted ((covers m c.1).0 ∙ sym said_count)
 
-  arrival : (r : Arrival) → Judged a r → r ≡ Waiting (length (headsOf (parse_at a m.list))) (length a)
+  arrival : (r : Arrival) → Judged a r → r ≡ Waiting (length (heads_of (parse_at a m.list))) (length a)
   arrival r f =
       let c = complete_covered (meets_complete m) in
       unique_arrival a r (Waiting c.0 c.1.last.at) f (ends_whole (meets_complete m) c.1)
-      ∙ ap (λ (n : ℕ). Waiting n c.1.last.at) ((covers m c.1).0 ∙ sym said-count)
-      ∙ ap (Waiting (length (headsOf (parse_at a m.list)))) (c.1.ends ∙ sym m.come)
+      ∙ ap (λ (n : ℕ). Waiting n c.1.last.at) ((covers m c.1).0 ∙ sym said_count)
+      ∙ ap (Waiting (length (heads_of (parse_at a m.list)))) (c.1.ends ∙ sym m.come)
 
-  rows : (rows rows' : List (List ℕ)) → length (headsOf (parse_at a m.list)) ≤ length rows → (r : Finished) → FinishedIs a rows r rows' → (r ≡ Accepted (length (headsOf (parse_at a m.list)))) × (rows' ≡ put 0 (rows_from [] 0 (headsOf (parse_at a m.list))) rows)
+  rows : (rows rows' : List (List ℕ)) → length (heads_of (parse_at a m.list)) ≤ length rows → (r : Finished) → FinishedIs a rows r rows' → (r ≡ Accepted (length (heads_of (parse_at a m.list)))) × (rows' ≡ put 0 (rows_from [] 0 (heads_of (parse_at a m.list))) rows)
   rows old new h r f =
-      let x = meets_accepted a old new m (omega (arith, said-count)) r f in
-      let e : rows_from [] 0 (headsOf (parse_at a m.list)) ≡ rows_of a (0 ∷ m.list) = ap (rows_from [] 0) said-heads ∙ chain-rows [] chain in
-      (x.0 ∙ ap Accepted (sym said-count), x.1 ∙ ap (λ (l : List (List ℕ)). put 0 l old) (sym e))
+      let x = meets_accepted a old new m (omega (arith, said_count)) r f in
+      let e : rows_from [] 0 (heads_of (parse_at a m.list)) ≡ rows_of a (0 ∷ m.list) = ap (rows_from [] 0) said_heads ∙ chain_rows [] chain in
+      (x.0 ∙ ap Accepted (sym said_count), x.1 ∙ ap (λ (l : List (List ℕ)). put 0 l old) (sym e))
 
-  listing-is : {c : ℕ} (w : Covered a c) → Li.listing w ≡ listed (parse_at a m.list)
-  listing-is {c} w =
+  listing_is : {c : ℕ} (w : Covered a c) → Li.listing w ≡ listed (parse_at a m.list)
+  listing_is {c} w =
       let e = covers m w in
-      let l : lines_from 0 (headsOf (parse_at a m.list)) ≡ lines a (0 ∷ m.list) = ap (lines_from 0) said-heads ∙ chain-lines chain in
-      ap (λ (n : ℕ). (bytes_of "records " ++ column n 10) ++ lines a (0 ∷ starts w.way)) (e.0 ∙ sym said-count)
-      ∙ ap (λ (s : List ℕ). (bytes_of "records " ++ column (length (headsOf (parse_at a m.list))) 10) ++ lines a (0 ∷ s)) e.1
-      ∙ ap (λ (s : List ℕ). (bytes_of "records " ++ column (length (headsOf (parse_at a m.list))) 10) ++ s) (sym l)
+      let l : lines_from 0 (heads_of (parse_at a m.list)) ≡ lines a (0 ∷ m.list) = ap (lines_from 0) said_heads ∙ chain_lines chain in
+      ap (λ (n : ℕ). (bytes_of "records " ++ column n 10) ++ lines a (0 ∷ starts w.way)) (e.0 ∙ sym said_count)
+      ∙ ap (λ (s : List ℕ). (bytes_of "records " ++ column (length (heads_of (parse_at a m.list))) 10) ++ lines a (0 ∷ s)) e.1
+      ∙ ap (λ (s : List ℕ). (bytes_of "records " ++ column (length (heads_of (parse_at a m.list))) 10) ++ s) (sym l)
 
   listing : (room exit : List ℕ) → length a ≤ 65536 → length (listed (parse_at a m.list)) ≤ length room → (r : Listed) → ListedIs a room r exit → (r ≡ L.Bytes (length (listed (parse_at a m.list)))) × (exit ≡ listed (parse_at a m.list) ++ drop (length (listed (parse_at a m.list))) room)
   listing room exit h l r f =
       let c = complete_covered (meets_complete m) in
-      let e = listing-is c.1 in
+      let e = listing_is c.1 in
       let t = listed (parse_at a m.list) in
       let g : Lists a room (length t) (t ++ drop (length t) room) = record {
         small = h;
@@ -295,10 +295,10 @@ pointer_parts a i p e = go (eqb (class a i) 3) e
     go true e = cc
     go false e = let z : ◌≡◌ {A = ℕ} 0 1 = cc in absurd (omega arith)
 
-pub nth-rec : (a l : List ℕ) (d : Rec) (k : ℕ) → k < length l → get_or (recs_at a l) k d ≡ rec_at a (get_or l k 0)
-nth-rec a [] d k h = absurd (omega arith)
-nth-rec a (i ∷ l) d zero h = refl
-nth-rec a (i ∷ l) d (suc k) h = nth-rec a l d k (omega arith)
+pub nth_rec : (a l : List ℕ) (d : Rec) (k : ℕ) → k < length l → get_or (recs_at a l) k d ≡ rec_at a (get_or l k 0)
+nth_rec a [] d k h = absurd (omega arith)
+nth_rec a (i ∷ l) d zero h = refl
+nth_rec a (i ∷ l) d (suc k) h = nth_rec a l d k (omega arith)
 
 nth_right : (l : List Rec) (d : Rec) → ((x : Rec) → In x l → RightRec x) → (k : ℕ) → k < length l → RightRec (get_or l k d)
 nth_right [] d f k h = absurd (omega arith)
@@ -313,15 +313,15 @@ size_is : (a : List ℕ) (i : ℕ) (p : Pointer) → pointer_at a i ≡ p → si
 unfolding pointer_at header_at
 size_is a i p e = ap (λ (x : Pointer). x.header.size) e
 
-pub nth-come : {a : List ℕ} {i p : ℕ} {l : List ℕ} → Records a i p l → (k : ℕ) → k < length l → get_or l k 0 + size a (get_or l k 0) ≤ declared a
-nth-come (none e) k h = absurd (omega arith)
-nth-come (more x m ts) zero h = records_le ts
-nth-come (more x m ts) (suc k) h = nth-come ts k (omega arith)
+pub nth_come : {a : List ℕ} {i p : ℕ} {l : List ℕ} → Records a i p l → (k : ℕ) → k < length l → get_or l k 0 + size a (get_or l k 0) ≤ declared a
+nth_come (none e) k h = absurd (omega arith)
+nth_come (more x m ts) zero h = records_le ts
+nth_come (more x m ts) (suc k) h = nth_come ts k (omega arith)
 
-pub nth-is : {a : List ℕ} {i p : ℕ} {l : List ℕ} → Records a i p l → (k : ℕ) → k < length l → (q : ℕ) × IsRecord a q (get_or l k 0)
-nth-is (none e) k h = absurd (omega arith)
-nth-is (more {p = p} x m ts) zero h = (p, x)
-nth-is (more x m ts) (suc k) h = nth-is ts k (omega arith)
+pub nth_is : {a : List ℕ} {i p : ℕ} {l : List ℕ} → Records a i p l → (k : ℕ) → k < length l → (q : ℕ) × IsRecord a q (get_or l k 0)
+nth_is (none e) k h = absurd (omega arith)
+nth_is (more {p = p} x m ts) zero h = (p, x)
+nth_is (more x m ts) (suc k) h = nth_is ts k (omega arith)
 
 -- THE LAW
 module _ (a : List ℕ) (bs : Bytes a) (m : Meets a) where
@@ -329,14 +329,14 @@ module _ (a : List ℕ) (bs : Bytes a) (m : Meets a) where
   targets k p h e =
       let l : k < length m.list = omega (arith, recs_length a m.list) in
       let i = get_or m.list k 0 in
-      let s : start_of (parse_at a m.list) (suc k) ≡ i = ap (λ (x : List ℕ). get_or x (suc k) 0) (said-starts a m) in
-      let q : pointer_at a i ≡ p = pointer_parts a i p (sym (nth-rec a m.list (pointer p) k l) ∙ e) in
+      let s : start_of (parse_at a m.list) (suc k) ≡ i = ap (λ (x : List ℕ). get_or x (suc k) 0) (said_starts a m) in
+      let q : pointer_at a i ≡ p = pointer_parts a i p (sym (nth_rec a m.list (pointer p) k l) ∙ e) in
       let r : RightPointer p = rw e at (nth_right (recs_at a m.list) (pointer p) (parse_right a bs m).records k h) in
       let z : size a i ≡ 27 = size_is a i p q ∙ r.is_size in
-      rw (s, le-leb (i + 27) (length a) (omega (arith, nth-come m.records k l, m.come)), q, is_pointer_lem p r)
+      rw (s, le-leb (i + 27) (length a) (omega (arith, nth_come m.records k l, m.come)), q, is_pointer_lem p r)
 
   pub answers : Answers a (parse_at a m.list)
   answers = record { verdict = verdict a m; arrival = arrival a m; texts = texts a m; numbers = numbers a m; times = times a m; points = points a m; records = records a m; targets = targets; rows = rows a m; listing = listing a m }
 
-pub print-answers : (v : Values) → Right v → Answers (print v) v
-print-answers v r = rw (parse_print v r (print_meets v r)) at (answers (print v) (print_bytes v r) (print_meets v r))
+pub print_answers : (v : Values) → Right v → Answers (print v) v
+print_answers v r = rw (parse_print v r (print_meets v r)) at (answers (print v) (print_bytes v r) (print_meets v r))

@@ -10,7 +10,7 @@ use Rattle.whole.proofs.Again.{print_parse}
 use Rattle.whole.proofs.Back.{parse_print}
 use Rattle.whole.proofs.Canon.{print_canonical}
 use Rattle.whole.proofs.OfBytes.{print_bytes}
-use Rattle.whole.proofs.Answers.{answers, print-answers}
+use Rattle.whole.proofs.Answers.{answers, print_answers}
 use Rattle.whole.proofs.Starts.{parse_is}
 use Rattle.whole.proofs.Assembled.{assembled_print}
 
@@ -23,7 +23,7 @@ inverse = record {
   product = print_meets;
   canonical = print_canonical;
   says = print_says;
-  answers = print-answers;
+  answers = print_answers;
   written = assembled_print;
   right = λ a bs m. subst Right (sym (parse_is a bs m)) (parse_right a bs m);
   answer = λ a bs m. subst (Answers a) (sym (parse_is a bs m)) (answers a bs m);

@@ -33,7 +33,7 @@ use Rattle.whole.specs.Alike.{AnswersAs, InNumber, EndsNone, Respelled, SameBut,
 use Rattle.whole.proofs.Moments.{times_same}
 use Rattle.whole.proofs.Parsed.{line_in_lem}
 use Rattle.whole.proofs.Again.{main_first, recs_again}
-use Rattle.whole.proofs.Answers.{same_text, same-time}
+use Rattle.whole.proofs.Answers.{same_text, same_time}
 use Rattle.whole.proofs.Alike.{says_same, alike_same}
 use Rattle.whole.proofs.Saying.{answers_as}
 use Rattle.whole.proofs.Respelled.{but_says}
@@ -54,7 +54,7 @@ module _ (a b : List ℕ) (i w : ℕ) where
       let x = and_true (eqb w 15) _ e in
       let y = and_true (eqb w 15) _ f in
       let q = eqb-true w 15 x.0 in
-      go (times_same false a b i i x.1 y.1 (same-time _ _ g) j (omega arith))
+      go (times_same false a b i i x.1 y.1 (same_time _ _ g) j (omega arith))
     where
       go : (get_or a (i + j) 0 ≡ get_or b (i + j) 0) ⊎ ((is_none 14 a i ≡ true) × (j ≡ 14)) → (get_or a (i + j) 0 ≡ get_or b (i + j) 0) ⊎ (⊥ ⊎ ((is_none 14 a i ≡ true) × (i + j ≡ i + 14)))
       go (inl z) = inl z
@@ -63,7 +63,7 @@ module _ (a b : List ℕ) (i w : ℕ) where
       let x = and_true (eqb w 18) _ e in
       let y = and_true (eqb w 18) _ f in
       let q = eqb-true w 18 x.0 in
-      go (times_same true a b i i x.1 y.1 (same-time _ _ g) j (omega arith))
+      go (times_same true a b i i x.1 y.1 (same_time _ _ g) j (omega arith))
     where
       go : (get_or a (i + j) 0 ≡ get_or b (i + j) 0) ⊎ ((is_none 17 a i ≡ true) × (j ≡ 17)) → (get_or a (i + j) 0 ≡ get_or b (i + j) 0) ⊎ (⊥ ⊎ ((is_none 17 a i ≡ true) × (i + j ≡ i + 17)))
       go (inl z) = inl z

@@ -31,13 +31,13 @@ use Rattle.query.proofs.QueryDetermined.{one_start}
 use Rattle.meter.specs.Integer.{Bytes}
 use Rattle.whole.specs.Values.{plain, pointer, Values, head_of, line_in}
 use Rattle.whole.specs.Parse.{value_at, line_at, rec_at, recs_at, parse_at}
-use Rattle.whole.specs.Answers.{headsOf, startsFrom, start_of}
+use Rattle.whole.specs.Answers.{heads_of, starts_from, start_of}
 use Rattle.whole.specs.Alike.{AnswersAs}
 use Rattle.whole.proofs.Parsed.{rec_head, line_in_lem, recs_length}
 use Rattle.query.proofs.LineAnswers.{come, main_clean}
 use Rattle.query.proofs.QueryDetermined.{one_count}
 use Rattle.query.proofs.QuerySays.{started}
-use Rattle.whole.proofs.Answers.{same_text, same_number, same-time, said-starts, nth-start, nth-rec, answers}
+use Rattle.whole.proofs.Answers.{same_text, same_number, same_time, said_starts, nth_start, nth_rec, answers}
 use Rattle.whole.proofs.Alike.{counts, rec_pointer, rec_plain}
 
 same_payload : (h g : Header) (s t : List ℕ) → plain h s ≡ plain g t → s ≡ t
@@ -76,8 +76,8 @@ time_of Count a b i w false s e = let z : ◌≡◌ {A = ℕ} 0 1 = cc in absurd
 time_of Signed a b i w true s e = let z : ◌≡◌ {A = ℕ} 0 1 = cc in absurd (omega arith)
 time_of Signed a b i w false s e = let z : ◌≡◌ {A = ℕ} 0 1 = cc in absurd (omega arith)
 time_of Time a b i w true s e = let z : ◌≡◌ {A = ℕ} 0 1 = cc in absurd (omega arith)
-time_of Time a b i w false s e = same-time (general_at 14 a i) (general_at 14 b i) e
-time_of LongTime a b i w true s e = same-time (general_at 17 a i) (general_at 17 b i) e
+time_of Time a b i w false s e = same_time (general_at 14 a i) (general_at 14 b i) e
+time_of LongTime a b i w true s e = same_time (general_at 17 a i) (general_at 17 b i) e
 time_of LongTime a b i w false s e = let z : ◌≡◌ {A = ℕ} 0 1 = cc in absurd (omega arith)
 
 -- ---- OF TWO PRODUCTS THAT SAY THE SAME
@@ -109,20 +109,20 @@ module _ (a b : List ℕ) (bs : Bytes a) (cs : Bytes b) (m : Meets a) (n : Meets
 
   -- the records
   list_same : m.list ≡ n.list
-  list_same = ap (drop 1) (sym (said-starts a m) ∙ ap (λ (v : Values). startsFrom 0 (headsOf v)) e ∙ said-starts b n)
+  list_same = ap (drop 1) (sym (said_starts a m) ∙ ap (λ (v : Values). starts_from 0 (heads_of v)) e ∙ said_starts b n)
 
   many : suc (length m.list) ≡ suc (length n.list)
   many = ap (λ (l : List ℕ). suc (length l)) list_same
 
   start_same : (k : ℕ) → k < suc (length m.list) → start a k ≡ start b k
-  start_same k h = sym (nth-start a m k h) ∙ ap (λ (l : List ℕ). get_or (0 ∷ l) k 0) list_same ∙ nth-start b n k (omega (arith, many))
+  start_same k h = sym (nth_start a m k h) ∙ ap (λ (l : List ℕ). get_or (0 ∷ l) k 0) list_same ∙ nth_start b n k (omega (arith, many))
 
   rec_same : (j : ℕ) → j < length m.list → rec_at a (get_or m.list j 0) ≡ rec_at b (get_or m.list j 0)
   rec_same j h =
       let d = plain (header_at a 0) [] in
-      sym (nth-rec a m.list d j h)
+      sym (nth_rec a m.list d j h)
       ∙ ap (λ (v : Values). get_or v.records j d) e
-      ∙ nth-rec b n.list d j (omega (arith, many))
+      ∙ nth_rec b n.list d j (omega (arith, many))
       ∙ ap (λ (l : List ℕ). rec_at b (get_or l j 0)) (sym list_same)
 
   head_at : (j : ℕ) → j < length m.list → header_at a (get_or m.list j 0) ≡ header_at b (get_or m.list j 0)
@@ -132,7 +132,7 @@ module _ (a b : List ℕ) (bs : Bytes a) (cs : Bytes b) (m : Meets a) (n : Meets
   unfolding start
   head_same zero h = ap (λ (v : Values). v.header) e
   head_same (suc j) h =
-      let q : get_or m.list j 0 ≡ start a (suc j) = nth-start a m (suc j) h in
+      let q : get_or m.list j 0 ≡ start a (suc j) = nth_start a m (suc j) h in
       rw q at (head_at j (omega arith))
 
   class_same : (j : ℕ) → j < length m.list → class a (get_or m.list j 0) ≡ class b (get_or m.list j 0)
@@ -175,7 +175,7 @@ module _ (a b : List ℕ) (bs : Bytes a) (cs : Bytes b) (m : Meets a) (n : Meets
   later_at : (k i : ℕ) (h : Header) → RecordFound a (suc k) i h → (k < length m.list) × (i ≡ get_or m.list k 0) × (h ≡ header_at a (get_or m.list k 0))
   later_at k i h f =
       let p = place f in
-      let q : i ≡ get_or m.list k 0 = p.1 ∙ sym (nth-start a m (suc k) p.0) in
+      let q : i ≡ get_or m.list k 0 = p.1 ∙ sym (nth_start a m (suc k) p.0) in
       (omega (arith, p.0), q, f.header ∙ ap (header_at a) q)
 
   later_class : (k : ℕ) (h : Header) → h ≡ header_at a (get_or m.list k 0) → class a (get_or m.list k 0) ≡ h.class
@@ -197,9 +197,9 @@ module _ (a b : List ℕ) (bs : Bytes a) (cs : Bytes b) (m : Meets a) (n : Meets
   target_same k h c =
       let i = get_or m.list k 0 in
       let p = pointer_at a i in
-      let x : get_or (recs_at a m.list) k (pointer p) ≡ pointer p = nth-rec a m.list (pointer p) k h ∙ rec_pointer a i c in
+      let x : get_or (recs_at a m.list) k (pointer p) ≡ pointer p = nth_rec a m.list (pointer p) k h ∙ rec_pointer a i c in
       let y : get_or (recs_at b n.list) k (pointer p) ≡ pointer p = ap (λ (v : Values). get_or v.records k (pointer p)) (sym e) ∙ x in
-      let u : start_of (parse_at a m.list) (suc k) ≡ i = ap (λ (s : List ℕ). get_or s (suc k) 0) (said-starts a m) in
+      let u : start_of (parse_at a m.list) (suc k) ≡ i = ap (λ (s : List ℕ). get_or s (suc k) 0) (said_starts a m) in
       let w : start_of (parse_at b n.list) (suc k) ≡ i = ap (λ (v : Values). start_of v (suc k)) (sym e) ∙ u in
       let f = rw u at ((answers a bs m).targets k p (omega (arith, recs_length a m.list)) x) in
       let g = rw w at ((answers b cs n).targets k p (omega (arith, many, recs_length b n.list)) y) in

@@ -11,7 +11,7 @@ use Rattle.demands.specs.Demands.{start}
 use Rattle.meter.specs.Integer.{Bytes}
 use Rattle.whole.specs.Parse.{parse_at, starts_at, parse}
 use Rattle.whole.proofs.Parsed.{all_counted, recs_length}
-use Rattle.whole.proofs.Answers.{nth-start}
+use Rattle.whole.proofs.Answers.{nth_start}
 
 starts_long : (a : List ℕ) (k n : ℕ) → length (starts_at a k n) ≡ n
 starts_long a k zero = refl
@@ -32,7 +32,7 @@ module _ (a : List ℕ) (bs : Bytes a) (m : Meets a) where
       (λ j h.
       let l : j < length m.list = omega (arith, starts_long a 1 (total a 0 - 1), many) in
       let z : 1 + j ≡ suc j = omega arith in
-      starts_nth a 1 (total a 0 - 1) j (omega (arith, many)) ∙ ap (start a) z ∙ sym (nth-start a m (suc j) (omega arith)))
+      starts_nth a 1 (total a 0 - 1) j (omega (arith, many)) ∙ ap (start a) z ∙ sym (nth_start a m (suc j) (omega arith)))
 
   pub parse_is : parse a ≡ parse_at a m.list
   parse_is = ap (parse_at a) starts_are

@@ -36,16 +36,16 @@ abbrev pub heads : List Rec → List Header
 heads [] = []
 heads (r ∷ l) = head_of r ∷ heads l
 
-abbrev pub headsOf : Values → List Header
-headsOf v = v.header ∷ heads v.records
+abbrev pub heads_of : Values → List Header
+heads_of v = v.header ∷ heads v.records
 
 -- where they start: each where the one before it ends
-abbrev pub startsFrom : ℕ → List Header → List ℕ
-startsFrom i [] = []
-startsFrom i (h ∷ l) = i ∷ startsFrom (i + h.size) l
+abbrev pub starts_from : ℕ → List Header → List ℕ
+starts_from i [] = []
+starts_from i (h ∷ l) = i ∷ starts_from (i + h.size) l
 
 abbrev pub start_of : Values → ℕ → ℕ
-start_of v k = get_or (startsFrom 0 (headsOf v)) k 0
+start_of v k = get_or (starts_from 0 (heads_of v)) k 0
 
 -- how many of the headers l are of h's class, group and subclass
 abbrev pub ordinal : Header → List Header → ℕ
@@ -63,17 +63,17 @@ lines_from i [] = []
 lines_from i (h ∷ l) = row (i ∷ h.class ∷ h.group ∷ h.subclass ∷ h.version ∷ h.size ∷ []) ++ lines_from (i + h.size) l
 
 abbrev pub listed : Values → List ℕ
-listed v = (bytes_of "records " ++ column (length (headsOf v)) 10) ++ lines_from 0 (headsOf v)
+listed v = (bytes_of "records " ++ column (length (heads_of v)) 10) ++ lines_from 0 (heads_of v)
 
 -- THE PRODUCT a ANSWERS WHAT v SAYS, to every query
 pub record Answers (a : List ℕ) (v : Values) : Type 0 where
-  pub verdict : (r : Finished) → VerdictIs a r → r ≡ Accepted (length (headsOf v))
-  pub arrival : (r : Arrival) → Judged a r → r ≡ Waiting (length (headsOf v)) (length a)
+  pub verdict : (r : Finished) → VerdictIs a r → r ≡ Accepted (length (heads_of v))
+  pub arrival : (r : Arrival) → Judged a r → r ≡ Waiting (length (heads_of v)) (length a)
   pub texts : (k : ℕ) (t : List ℕ) → k < 72 → line_in v k ≡ text t → (r : FieldAnswer) → TextIs a k r → (r ≡ Part (value_start k) (width_of k)) × (take (width_of k) (drop (value_start k) a) ≡ t)
   pub numbers : (k : ℕ) (x : Number) → k < 72 → line_in v k ≡ number x → (r : NumberAnswer) → NumberIs a k r → r ≡ B.Number x
   pub times : (k : ℕ) (g : General) → k < 72 → line_in v k ≡ time g → (r : TimeAnswer) → TimeIs a k (is_long (kind_of k)) r → r ≡ T.Time g
   pub points : (end : Bool) (x y : Number) → line_in v (latitude_field end) ≡ number x → line_in v (latitude_field end + 1) ≡ number y → (r : PointAnswer) → PointIs a end r → r ≡ point_of x y
-  pub records : (k : ℕ) → k < length (headsOf v) → (r : RecordAnswer) → RecordIs a k r → r ≡ Record (start_of v k) (get_or (headsOf v) k v.header)
+  pub records : (k : ℕ) → k < length (heads_of v) → (r : RecordAnswer) → RecordIs a k r → r ≡ Record (start_of v k) (get_or (heads_of v) k v.header)
   pub targets : (k : ℕ) (p : Pointer) → k < length v.records → get_or v.records k (pointer p) ≡ pointer p → pointer_read_at a (start_of v (suc k)) ≡ answer p
-  pub rows : (rows rows' : List (List ℕ)) → length (headsOf v) ≤ length rows → (r : Finished) → FinishedIs a rows r rows' → (r ≡ Accepted (length (headsOf v))) × (rows' ≡ put 0 (rows_from [] 0 (headsOf v)) rows)
+  pub rows : (rows rows' : List (List ℕ)) → length (heads_of v) ≤ length rows → (r : Finished) → FinishedIs a rows r rows' → (r ≡ Accepted (length (heads_of v))) × (rows' ≡ put 0 (rows_from [] 0 (heads_of v)) rows)
   pub listing : (room exit : List ℕ) → length a ≤ 65536 → length (listed v) ≤ length room → (r : Listed) → ListedIs a room r exit → (r ≡ Bytes (length (listed v))) × (exit ≡ listed v ++ drop (length (listed v)) room)

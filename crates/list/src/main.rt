@@ -47,11 +47,16 @@ fn read_input<F: Read>(input: &mut F, bytes: &mut [u8]) -> Input
     Input::Bytes(done)
 }
 
-fn fail<R: Eprint>(rt: &R, what: &str, e: io::Error) -> io::Result<()> {
-    eprintln!(rt; "{what}: {e}")
+// A line of what failed and why, without the system's number behind the reason.
+fn fail<R: Eprint + Alloc>(rt: &R, what: &str, e: io::Error) -> io::Result<()> {
+    let why = format!(in rt.alloc(); "{e}")?;
+    match why.as_str().split_once(" (os error ") {
+        Some((reason, _)) => eprintln!(rt; "{what}: {reason}"),
+        None => eprintln!(rt; "{what}: {}", why.as_str()),
+    }
 }
 
-fn print<R: Print + Eprint>(rt: &R, bytes: &[u8]) -> io::Result<()> {
+fn print<R: Print + Eprint + Alloc>(rt: &R, bytes: &[u8]) -> io::Result<()> {
     match io::writer(rt).write_all(bytes) {
         Ok(()) => Ok(()),
         Err(e) => fail(rt, "list: standard output", e),
@@ -59,7 +64,7 @@ fn print<R: Print + Eprint>(rt: &R, bytes: &[u8]) -> io::Result<()> {
 }
 
 // The room is enough for each refusal (listing's law `line_enough`).
-fn print_refusal<R: Print + Eprint>(rt: &R, r: Refusal) -> io::Result<()> {
+fn print_refusal<R: Print + Eprint + Alloc>(rt: &R, r: Refusal) -> io::Result<()> {
     let mut room = [0u8; 64];
     match listing::refusal_line(r, &mut room) {
         Listed::Bytes(n) => print(rt, &room[..n]),
@@ -68,7 +73,7 @@ fn print_refusal<R: Print + Eprint>(rt: &R, r: Refusal) -> io::Result<()> {
 }
 
 // The room is enough for each product that is listed (listing's law `never_18`).
-fn print_list<R: Print + Eprint>(rt: &R, bytes: &[u8]) -> io::Result<()> {
+fn print_list<R: Print + Eprint + Alloc>(rt: &R, bytes: &[u8]) -> io::Result<()> {
     let mut room = [0u8; 131072];
     match listing::list_product(bytes, &mut room) {
         Listed::Bytes(n) => print(rt, &room[..n]),
@@ -77,7 +82,11 @@ fn print_list<R: Print + Eprint>(rt: &R, bytes: &[u8]) -> io::Result<()> {
 }
 
 // One byte more than the listing takes, so that it sees where there are too many.
-fn list_input<R: Print + Eprint, F: Read>(rt: &R, input: &mut F, name: &str) -> io::Result<()> {
+fn list_input<R: Print + Eprint + Alloc, F: Read>(
+    rt: &R,
+    input: &mut F,
+    name: &str,
+) -> io::Result<()> {
     let mut bytes = [0u8; 65537];
     match read_input(input, &mut bytes) {
         Input::Bytes(n) => print_list(rt, &bytes[..n]),
@@ -85,7 +94,7 @@ fn list_input<R: Print + Eprint, F: Read>(rt: &R, input: &mut F, name: &str) -> 
     }
 }
 
-fn list_file<R: Files + Print + Eprint>(rt: &R, name: &str) -> io::Result<()> {
+fn list_file<R: Files + Print + Eprint + Alloc>(rt: &R, name: &str) -> io::Result<()> {
     match File::open(rt, name) {
         Ok(mut file) => list_input(rt, &mut file, name),
         Err(e) => fail(rt, name, e),

@@ -5,10 +5,12 @@ use mathlib.Core.Path.{◌≡◌, refl, sym, ap, ◌∙◌}
 use mathlib.Core.Bool.{Bool}
 use Prim.Native.Nat.{ℕ}
 use Rattle.calendar.specs.declared.Date.{Date}
-use Rattle.calendar.specs.declared.DayNumber.{DayNumber}
-use Rattle.calendar.specs.declared.DayNumber.TheVariants as D
+use Rattle.std.specs.declared.result.Result.TheVariants.{Ok, Err}
+use Rattle.std.specs.declared.result.Result.{Result}
+use Rattle.calendar.specs.declared.Refusal.{Refusal}
+use Rattle.calendar.specs.Said.{said}
 use Rattle.calendar.specs.Said.{Said, answer, refusal, refusing}
-use Rattle.calendar.specs.Calendar.{is_date, leap_day, leap_date, date_of, day_number_of, said_day}
+use Rattle.calendar.specs.Calendar.{is_date, leap_day, leap_date, date_of, day_number_of}
 
 pub fixes : {R A : Type 0} (said : R → Said A) (unsaid : Said A → R) → ((r : R) → unsaid (said r) ≡ r) → (x : Said A) (r s : R) → said r ≡ x → said s ≡ x → r ≡ s
 fixes said unsaid back x r s p q = sym (back r) ∙ ap unsaid (p ∙ sym q) ∙ back s
@@ -16,16 +18,16 @@ fixes said unsaid back x r s p q = sym (back r) ∙ ap unsaid (p ∙ sym q) ∙ 
 pub only : {A : Type 0} (x r s : A) → r ≡ x → s ≡ x → r ≡ s
 only x r s p q = p ∙ sym q
 
-abbrev pub unsaid_day : Said ℕ → DayNumber
-unsaid_day (answer n) = D.Day n
-unsaid_day (refusal n p) = D.Refused (refusing n p)
+abbrev pub unsaid_day : Said ℕ → Result ℕ Refusal
+unsaid_day (answer n) = Ok n
+unsaid_day (refusal n p) = Err (refusing n p)
 
-pub day_unsaid : (r : DayNumber) → unsaid_day (said_day r) ≡ r
-day_unsaid (D.Day n) = refl
-day_unsaid (D.Refused r) = refl
+pub day_unsaid : (r : Result ℕ Refusal) → unsaid_day (said r) ≡ r
+day_unsaid (Ok n) = refl
+day_unsaid (Err r) = refl
 
-pub unique_day_number : (x : Date) (r s : DayNumber) → said_day r ≡ day_number_of x → said_day s ≡ day_number_of x → r ≡ s
-unique_day_number x r s p q = fixes said_day unsaid_day day_unsaid (day_number_of x) r s p q
+pub unique_day_number : (x : Date) (r s : Result ℕ Refusal) → said r ≡ day_number_of x → said s ≡ day_number_of x → r ≡ s
+unique_day_number x r s p q = fixes said unsaid_day day_unsaid (day_number_of x) r s p q
 
 pub unique_is_date : (x : Date) (r s : Bool) → r ≡ is_date x → s ≡ is_date x → r ≡ s
 unique_is_date x r s p q = only (is_date x) r s p q

@@ -2,9 +2,7 @@
 -- Assumes nothing.
 use Rattle.std.specs.Prelude.{ℕ, zero, suc, ◌+◌, ◌-◌, ◌%◌, Bool, cond, not, ◌&&◌, ◌||◌, eqb, ltb, leb}
 use Rattle.calendar.specs.declared.Date.{Date}
-use Rattle.calendar.specs.declared.DayNumber.{DayNumber}
-use Rattle.calendar.specs.declared.DayNumber.TheVariants as D
-use Rattle.calendar.specs.Said.{Said, answer, refusal, refused}
+use Rattle.calendar.specs.Said.{Said, answer, refusal}
 
 -- every fourth year but of the full hundreds only every fourth
 abbrev pub leap : ℕ → Bool
@@ -60,8 +58,3 @@ leap_day n = eqb n 2191 || (eqb n 3287 || (eqb n 4564 || (eqb n 5659 || eqb n 62
 
 unfoldable pub leap_date : Date → Bool
 leap_date x = has_day x && leap_day (days_to x)
-
--- what an answer says
-abbrev pub said_day : DayNumber → Said ℕ
-said_day (D.Day n) = answer n
-said_day (D.Refused r) = refused r

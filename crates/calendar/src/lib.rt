@@ -2,10 +2,13 @@
 #![tactic(auto)]
 
 ghost use Rattle.std.specs.Prelude.{◌≡◌, ◌≤◌, ◌<◌};
-ghost use Rattle.calendar.specs.Calendar.{leap, days_in, is_date, date_of, day_number_of, said_day, leap_day, leap_date};
+ghost use Rattle.calendar.specs.Said.{said};
+ghost use Rattle.calendar.specs.Calendar.{leap, days_in, is_date, date_of, day_number_of, leap_day, leap_date};
 ghost use Rattle.calendar.specs.Closed.{layout_of, month_at, start_of, shift_of, closed_number};
 
-// Why nothing else is answered: the paper's number, and the place that goes with it.
+pub mod fault;
+
+// Why nothing else is answered: the paper's number, one of `fault`, and the place that goes with it.
 #[derive(Clone, Copy)]
 pub struct Refusal {
     pub number: u8,
@@ -19,65 +22,36 @@ pub struct Date {
     pub day: u8,
 }
 
-#[derive(Clone, Copy)]
-pub enum DayNumber {
-    Day(u16),
-    Refused(Refusal),
-}
-
 fn is_leap(year: u32) -> bool
     ensures { result ≡ leap year }
 {
-    if year % 4 != 0 {
-        return false;
-    }
-    if year % 100 != 0 {
-        return true;
-    }
-    year % 400 == 0
+    year % 4 == 0 && (year % 100 != 0 || year % 400 == 0)
 }
 
 fn days_in(year: u32, month: u32) -> u32
     ensures { result ≡ days_in year month }
 {
-    if month == 2 {
-        if is_leap(year) {
-            return 29;
-        }
-        return 28;
+    match month {
+        2 if is_leap(year) => 29,
+        2 => 28,
+        4 | 6 | 9 | 11 => 30,
+        _ => 31,
     }
-    if month == 4 {
-        return 30;
-    }
-    if month == 6 {
-        return 30;
-    }
-    if month == 9 {
-        return 30;
-    }
-    if month == 11 { 30 } else { 31 }
 }
 
 // A date of the calendar, of the years 0000 to 9999.
+#[tactic(auto, unfolding(crate::specs::Calendar::is_date))]
 pub fn is_date(date: Date) -> bool
     ensures { result ≡ is_date date }
 {
-    let year = date.year as u32;
-    let month = date.month as u32;
-    let day = date.day as u32;
-    if year > 9999 {
-        return false;
+    match date {
+        Date {
+            year: 0..=9999,
+            month: 1..=12,
+            day: 1..,
+        } => { date.day as u32 <= days_in(date.year as u32, date.month as u32) }
+        _ => false,
     }
-    if month < 1 {
-        return false;
-    }
-    if month > 12 {
-        return false;
-    }
-    if day < 1 {
-        return false;
-    }
-    day <= days_in(year, month)
 }
 
 // The day of a year, counted from 0, as if the year had a February of 29 days.
@@ -155,56 +129,39 @@ fn closed_number(year: u32, month: u32, day: u32) -> u32
     t - t / 36585
 }
 
+// No date, or none that has a day number.
+const NO_DAY: Refusal = Refusal {
+    number: fault::MALFORMED,
+    place: 0,
+};
+
 // The day number of a date; 21 for no date, and for one outside 0 to 65535.
-pub fn day_number(date: Date) -> DayNumber
-    ensures { said_day result ≡ day_number_of date }
+pub fn day_number(date: Date) -> Result<u16, Refusal>
+    ensures { said result ≡ day_number_of date }
 {
     if !is_date(date) {
-        return DayNumber::Refused(Refusal {
-            number: 21,
-            place: 0,
-        });
+        return Err(NO_DAY);
     }
     let year = date.year as u32;
     if year < 2000 {
-        return DayNumber::Refused(Refusal {
-            number: 21,
-            place: 0,
-        });
+        return Err(NO_DAY);
     }
     if year > 2179 {
-        return DayNumber::Refused(Refusal {
-            number: 21,
-            place: 0,
-        });
+        return Err(NO_DAY);
     }
     let n = closed_number(year - 2000, date.month as u32, date.day as u32);
     if n > 65535 {
-        return DayNumber::Refused(Refusal {
-            number: 21,
-            place: 0,
-        });
+        return Err(NO_DAY);
     }
-    DayNumber::Day(n as u16)
+    Ok(n as u16)
 }
 
 // Whether the day ends in a leap second.
+#[tactic(auto, unfolding(crate::specs::Calendar::leap_day))]
 pub fn is_leap_day(day: u16) -> bool
     ensures { result ≡ leap_day day }
 {
-    if day == 2191 {
-        return true;
-    }
-    if day == 3287 {
-        return true;
-    }
-    if day == 4564 {
-        return true;
-    }
-    if day == 5659 {
-        return true;
-    }
-    day == 6209
+    matches!(day, 2191 | 3287 | 4564 | 5659 | 6209)
 }
 
 // Whether the day of the date does.
@@ -212,7 +169,7 @@ pub fn is_leap_date(date: Date) -> bool
     ensures { result ≡ leap_date date }
 {
     match day_number(date) {
-        DayNumber::Day(n) => is_leap_day(n),
-        DayNumber::Refused(_) => false,
+        Ok(n) => is_leap_day(n),
+        Err(_) => false,
     }
 }

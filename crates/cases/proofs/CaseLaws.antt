@@ -4,9 +4,10 @@ use Rattle.std.proofs.Common.{◌≡◌, ℕ, zero, suc, ◌+◌, ◌-◌, ◌*�
 use Rattle.cases.specs.Case.{IsPrefixLen}
 use Rattle.calendar.specs.Said.{Said, answer, refusal}
 use Rattle.calendar.specs.declared.Refusal.{Refusal}
-use Rattle.meter.specs.Integer.{be_at, is_width, said_unsigned, unsigned_at}
-use Rattle.meter.specs.declared.integer.Unsigned.{Unsigned}
-use Rattle.meter.specs.declared.integer.Unsigned.TheVariants as U
+use Rattle.meter.specs.Integer.{be_at, is_width, unsigned_at}
+use Rattle.std.specs.declared.result.Result.TheVariants.{Ok, Err}
+use Rattle.std.specs.declared.result.Result.{Result}
+use Rattle.calendar.specs.Said.{said}
 use Rattle.meter.specs.Lent.{inside}
 use Rattle.cases.specs.Case.{number_at}
 
@@ -51,11 +52,11 @@ value_cond false d v n p m q = refl
 number_of : (a : List ℕ) (at n : ℕ) → value_of (unsigned_at a at n) ≡ number_at a at n
 number_of a at n = value_cond (inside a at n) (is_width n) (be_at a at n) 21 0 20 (length a)
 
-pub read_value : (r : Unsigned) (v : ℕ) (a : List ℕ) (at n : ℕ) → r ≡ U.Value v → said_unsigned r ≡ unsigned_at a at n → v ≡ number_at a at n
-read_value r v a at n e h = sym (ap (λ (x : Unsigned). value_of (said_unsigned x)) e) ∙ ap value_of h ∙ number_of a at n
+pub read_value : (r : Result ℕ Refusal) (v : ℕ) (a : List ℕ) (at n : ℕ) → r ≡ Ok v → said r ≡ unsigned_at a at n → v ≡ number_at a at n
+read_value r v a at n e h = sym (ap (λ (x : Result ℕ Refusal). value_of (said x)) e) ∙ ap value_of h ∙ number_of a at n
 
-pub read_none : (r : Unsigned) (q : Refusal) (a : List ℕ) (at n : ℕ) → r ≡ U.Refused q → said_unsigned r ≡ unsigned_at a at n → 0 ≡ number_at a at n
-read_none r q a at n e h = sym (ap (λ (x : Unsigned). value_of (said_unsigned x)) e) ∙ ap value_of h ∙ number_of a at n
+pub read_none : (r : Result ℕ Refusal) (q : Refusal) (a : List ℕ) (at n : ℕ) → r ≡ Err q → said r ≡ unsigned_at a at n → 0 ≡ number_at a at n
+read_none r q a at n e h = sym (ap (λ (x : Result ℕ Refusal). value_of (said x)) e) ∙ ap value_of h ∙ number_of a at n
 
 -- the product of two bytes
 pub small_product : (k w : ℕ) → k < 256 → w < 256 → k * w ≤ 65025

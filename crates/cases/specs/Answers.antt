@@ -1,8 +1,8 @@
 -- The answers that a program puts together, and how it counts. Assumes nothing.
-use Rattle.std.specs.Prelude.{ℕ, ◌+◌, ◌%◌, ◌^◌, Bool, true, false, cond, List, [], ◌∷◌, replicate, slice_index, slice_set}
+use Rattle.std.specs.Prelude.{ℕ, ◌+◌, ◌%◌, ◌^◌, Bool, true, false, List, [], ◌∷◌, slice_index, slice_set}
 use Rattle.calendar.specs.declared.Refusal.{Refusal}
-use Rattle.meter.specs.declared.integer.Written.{Written}
-use Rattle.meter.specs.declared.integer.Written.TheVariants as W
+use Rattle.std.specs.declared.result.Result.TheVariants.{Ok, Err}
+use Rattle.std.specs.declared.result.Result.{Result}
 use Rattle.cases.specs.declared.answer.Answer.{Answer}
 use Rattle.cases.specs.declared.counts.Counts.{Counts}
 
@@ -17,9 +17,9 @@ abbrev pub refused_as : Refusal → Bool → Answer
 refused_as r kept = answer_of 1 r.number (r.place ∷ 0 ∷ 0 ∷ 0 ∷ 0 ∷ []) kept
 
 -- what a writer answered: the bytes written first of the numbers, or its refusal
-abbrev pub written_as : Written → Bool → Answer
-written_as (W.Bytes n) kept = answer_of 0 0 (n ∷ 0 ∷ 0 ∷ 0 ∷ 0 ∷ []) kept
-written_as (W.Refused r) kept = refused_as r kept
+abbrev pub written_as : Result ℕ Refusal → Bool → Answer
+written_as (Ok n) kept = answer_of 0 0 (n ∷ 0 ∷ 0 ∷ 0 ∷ 0 ∷ []) kept
+written_as (Err r) kept = refused_as r kept
 
 -- ---- the counts, 32 kinds of each, in 64 bits
 abbrev pub counts_of : List ℕ → List ℕ → Counts

@@ -6,7 +6,6 @@ ghost use Rattle.cases.specs.Answers.{answer_of, values_of, refused_as, written_
 use crate::input::{byte, word};
 use crate::print::{name_of, number, numbers, say};
 use calendar::Refusal;
-use meter::integer::Written;
 use std::io;
 use std::io::Write;
 
@@ -59,17 +58,17 @@ pub fn refused(r: Refusal, kept: bool) -> Answer
     }
 }
 
-pub fn written(w: Written, kept: bool) -> Answer
+pub fn written(w: Result<usize, Refusal>, kept: bool) -> Answer
     ensures { result ≡ written_as w kept }
 {
     match w {
-        Written::Bytes(n) => Answer {
+        Ok(n) => Answer {
             tag: 0,
             number: 0,
             values: [n as u64, 0, 0, 0, 0],
             kept,
         },
-        Written::Refused(r) => refused(r, kept),
+        Err(r) => refused(r, kept),
     }
 }
 
@@ -78,15 +77,10 @@ fn has_values(case: &[u8], at: usize, x: Answer, n: usize) -> bool
     requires { at + 40 ≤ length case.now }
     ensures { result ≡ true → HasValues case.now at x n }
 {
-    let mut i: usize = 0;
-    while i < 5 {
-        if i == n {
-            return true;
-        }
-        if x.values[i] != word(case, at + 8 * i, 8) {
+    for (i, v) in x.values[..n.min(5)].iter().enumerate() {
+        if *v != word(case, at + 8 * i, 8) {
             return false;
         }
-        i += 1;
     }
     true
 }
@@ -115,10 +109,8 @@ pub fn agrees(case: &[u8], at: usize, x: Answer, n: usize) -> bool
 }
 
 fn print_values<W: Write>(out: &mut W, x: Answer) -> io::Result<()> {
-    let mut i: usize = 0;
-    while i < 5 {
-        number(out, x.values[i])?;
-        i += 1;
+    for v in &x.values {
+        number(out, *v)?;
     }
     Ok(())
 }

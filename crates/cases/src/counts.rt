@@ -52,15 +52,13 @@ pub fn print_counts<W: Write>(
     names: &[u8],
     width: u8,
 ) -> io::Result<()> {
-    let mut kind: usize = 1;
-    while kind < 32 {
+    for kind in 1..32 {
         print_count(
             out,
             name_of(names, width, kind as u8),
             counts.agreed[kind],
             counts.disagreed[kind],
         )?;
-        kind += 1;
     }
     Ok(())
 }

@@ -3,7 +3,6 @@ ghost use Rattle.std.specs.Prelude.{◌≡◌, ◌<◌, true, false, length, tak
 ghost use Rattle.std.specs.Io.KnownBytes.{Consumes, IsAtEnd};
 ghost use Rattle.cases.specs.Case.{number_at, Same, IsPrefixLen};
 
-use meter::integer::Unsigned;
 use std::io;
 use std::io::Read;
 
@@ -14,6 +13,7 @@ fn fill<R: Read>(input: &mut R, room: &mut [u8]) -> io::Result<usize>
     ensures end { IfOk result (λ n. n < length room.new → IsAtEnd (R.remaining input.new)) }
 {
     let mut done: usize = 0;
+    // The step is what a read gave.
     while done < room.len() {
         let n = input.read(&mut room[done..])?;
         if n == 0 {
@@ -55,10 +55,7 @@ pub fn byte(case: &[u8], at: usize) -> u8
 pub fn word(case: &[u8], at: usize, n: usize) -> u64
     ensures { result ≡ number_at case.now at n }
 {
-    match meter::integer::read_unsigned(case, at, n) {
-        Unsigned::Value(v) => v,
-        Unsigned::Refused(_) => 0,
-    }
+    meter::integer::read_unsigned(case, at, n).unwrap_or(0)
 }
 
 // The n bytes of a case from `from` on, or as many as there are.
@@ -79,7 +76,7 @@ pub fn part(case: &[u8], from: usize, n: usize) -> &[u8]
 pub fn fitting(n: usize, room: &[u8]) -> usize
     ensures { IsPrefixLen result room.now }
 {
-    if n < room.len() { n } else { room.len() }
+    n.min(room.len())
 }
 
 // Whether the bytes of the room are those of the case from `at` on.
@@ -92,12 +89,5 @@ pub fn is_same(room: &[u8], case: &[u8], at: usize) -> bool
     if case.len() - at < room.len() {
         return false;
     }
-    let mut i: usize = 0;
-    while i < room.len() {
-        if room[i] != case[at + i] {
-            return false;
-        }
-        i += 1;
-    }
-    true
+    room == &case[at..at + room.len()]
 }

@@ -26,16 +26,10 @@ pub fn refusal<W: Write>(out: &mut W, r: Refusal) -> io::Result<()> {
     number(out, r.place as u64)
 }
 
-fn wide(b: u8) -> u64 {
-    b as u64
-}
-
 // Each byte as a number.
 pub fn numbers<W: Write>(out: &mut W, bytes: &[u8]) -> io::Result<()> {
-    let mut i: usize = 0;
-    while i < bytes.len() {
-        number(out, wide(bytes[i]))?;
-        i += 1;
+    for b in bytes {
+        number(out, u64::from(*b))?;
     }
     Ok(())
 }
@@ -47,24 +41,8 @@ pub fn name_of(names: &[u8], width: u8, kind: u8) -> &[u8]
     part(names, (kind as usize) * (width as usize), width as usize)
 }
 
-// How far v is from 0: -1 - v fits also where v is the least number.
-fn size_of(v: i64) -> u64 {
-    if v < 0 {
-        let m = -1 - v;
-        (m as u64) + 1
-    } else {
-        v as u64
-    }
-}
-
 pub fn signed<W: Write>(out: &mut W, v: i64) -> io::Result<()> {
-    if v < 0 {
-        say(out, b" -")?;
-    } else {
-        say(out, b" ")?;
-    }
-    let size = size_of(v);
-    write!(out, "{size}")
+    write!(out, " {v}")
 }
 
 // A float's bits, 16 digits of base 16; a NaN has none that are its own.

@@ -20,10 +20,11 @@ use Rattle.parts.proofs.WalkLaws.{walk_first, walk_length}
 use Rattle.parts.proofs.AgainstLaws.{narrower, cut_of, no_stands, stands_no}
 use Rattle.parts.proofs.Narrower.{chosen_wider}
 use Rattle.parts.proofs.TownLaws.{town_records, town_mdrs, town_sphr, town_aux, town_keeps}
-use Rattle.compare.specs.declared.cut.Checked.{Checked}
-use Rattle.compare.specs.declared.cut.Checked.TheVariants as C
-use Rattle.compare.specs.declared.walk.Compared.{Compared}
-use Rattle.compare.specs.declared.walk.Compared.TheVariants as R
+use Rattle.std.specs.declared.option.Option.TheVariants.{Some, None}
+use Rattle.std.specs.declared.result.Result.TheVariants.{Ok, Err}
+use Rattle.std.specs.declared.option.Option.{Option}
+use Rattle.std.specs.declared.result.Result.{Result}
+use Rattle.calendar.specs.declared.Refusal.{Refusal}
 use Rattle.compare.specs.Walking.{Both, Products, RecordsIs, compared_as}
 use Rattle.compare.specs.Check.{Cut, IsCutOf, PartsCheck, is, other_field, unmatched, CheckIs, original_unfit, cut_unfit, both, NotAt, field, at_record, at_end, No}
 use Rattle.compare.proofs.CutOfLaws.{verdict_cut, cut_verdict, cut_itself, cut_on}
@@ -40,9 +41,6 @@ module _ {a : List ℕ} (t : Meets a) where
   low = omega (arith, t.come, t.header.most)
 
 -- ---- from the code's answers
-pub answer_at : {a b : List ℕ} {r s : Checked} → r ≡ s → CheckIs a b s → CheckIs a b r
-answer_at {a} {b} e c = subst (λ (x : Checked). CheckIs a b x) (sym e) c
-
 module _ {a b : List ℕ} (p : Products a b) where
   pub both_records : Both a b
   both_records =
@@ -60,27 +58,24 @@ module _ {a b : List ℕ} (p : Products a b) where
         };
       }
 
-  says : (r : Compared) → RecordsIs a b r → verdict (records_at b p.cut.list) (records_at a p.original.list) ≡ compared_as r
+  says : (r : Option ℕ) → RecordsIs a b r → verdict (records_at b p.cut.list) (records_at a p.original.list) ≡ compared_as r
   says r h = h (records_at a p.original.list) (records_at b p.cut.list) (walk_first a p.original) (walk_first b p.cut)
 
-  pub says_field : (FourAgree (main_of a) (main_of b) → ⊥) → CheckIs a b (C.Not 0)
+  pub says_field : (FourAgree (main_of a) (main_of b) → ⊥) → CheckIs a b (Ok (Some 0))
   says_field d = both p.original p.cut (other_field d)
 
-  module _ (f : FourAgree (main_of a) (main_of b)) (r : Compared) (h : RecordsIs a b r) where
-    pub says_is : r ≡ R.Alike → CheckIs a b C.Is
-    says_is e = both p.original p.cut (is (record { fields = f; records = verdict_cut (records_at b p.cut.list) (records_at a p.original.list) (says r h ∙ ap compared_as e) }))
-
-    pub says_not : (n : ℕ) → r ≡ R.Unlike n → CheckIs a b (C.Not n)
-    says_not n e = both p.original p.cut (unmatched n f (says r h ∙ ap compared_as e))
+  pub says_records : FourAgree (main_of a) (main_of b) → (r : Option ℕ) → RecordsIs a b r → CheckIs a b (Ok r)
+  says_records f None h = both p.original p.cut (is (record { fields = f; records = verdict_cut (records_at b p.cut.list) (records_at a p.original.list) (says None h) }))
+  says_records f (Some n) h = both p.original p.cut (unmatched n f (says (Some n) h))
 
 -- ---- NO SECOND ANSWER FITS
 never : (n : ℕ) → unlike n ≡ alike → ⊥
 never n e = let z : ◌≡◌ {A = ℕ} 0 1 = cc in omega arith
 
-one_place : (n k : ℕ) → unlike n ≡ unlike k → C.Not n ≡ C.Not k
+one_place : (n k : ℕ) → unlike n ≡ unlike k → ◌≡◌ {A = Result (Option ℕ) Refusal} (Ok (Some n)) (Ok (Some k))
 one_place n k e = cc
 
-one_parts : {m n : List ℕ} {rs cs : List (List ℕ)} {r s : Checked} → Follows 1 rs → Follows 1 cs → PartsCheck m n rs cs r → PartsCheck m n rs cs s → r ≡ s
+one_parts : {m n : List ℕ} {rs cs : List (List ℕ)} {r s : Result (Option ℕ) Refusal} → Follows 1 rs → Follows 1 cs → PartsCheck m n rs cs r → PartsCheck m n rs cs s → r ≡ s
 one_parts f g (is x) (is y) = refl
 one_parts f g (is x) (other_field d) = absurd (d x.fields)
 one_parts {rs = rs} {cs = cs} f g (is x) (unmatched p d e) = absurd (never p (sym e ∙ cut_verdict cs rs g f x.records))
@@ -92,32 +87,32 @@ one_parts f g (unmatched p x e) (other_field d) = absurd (d x)
 one_parts f g (unmatched p x e) (unmatched q y d) = one_place p q (sym e ∙ d)
 
 -- another proof that the two are products has the same parts
-moved : {a b : List ℕ} {r : Checked} (t t' : Meets a) (u u' : Meets b) → PartsCheck (main_of a) (main_of b) (records_at a t.list) (records_at b u.list) r → PartsCheck (main_of a) (main_of b) (records_at a t'.list) (records_at b u'.list) r
+moved : {a b : List ℕ} {r : Result (Option ℕ) Refusal} (t t' : Meets a) (u u' : Meets b) → PartsCheck (main_of a) (main_of b) (records_at a t.list) (records_at b u.list) r → PartsCheck (main_of a) (main_of b) (records_at a t'.list) (records_at b u'.list) r
 moved {a} {b} {r} t t' u u' p =
     subst (λ (l : List ℕ). PartsCheck (main_of a) (main_of b) (records_at a t'.list) (records_at b l) r) (one_list u u')
     (subst (λ (l : List ℕ). PartsCheck (main_of a) (main_of b) (records_at a l) (records_at b u.list) r) (one_list t t') p)
 
-pub unique_check : (a b : List ℕ) (r s : Checked) → CheckIs a b r → CheckIs a b s → r ≡ s
-unique_check a b r s (original_unfit q g) (original_unfit p h) = ap C.Refused (one_refused q p g h)
+pub unique_check : (a b : List ℕ) (r s : Result (Option ℕ) Refusal) → CheckIs a b r → CheckIs a b s → r ≡ s
+unique_check a b r s (original_unfit q g) (original_unfit p h) = ap Err (one_refused q p g h)
 unique_check a b r s (original_unfit q g) (cut_unfit p t h) = absurd (meets_fit t q g)
 unique_check a b r s (original_unfit q g) (both t u p) = absurd (meets_fit t q g)
 unique_check a b r s (cut_unfit q t g) (original_unfit p h) = absurd (meets_fit t p h)
-unique_check a b r s (cut_unfit q t g) (cut_unfit p u h) = ap C.Refused (one_refused q p g h)
+unique_check a b r s (cut_unfit q t g) (cut_unfit p u h) = ap Err (one_refused q p g h)
 unique_check a b r s (cut_unfit q t g) (both u v p) = absurd (meets_fit v q g)
 unique_check a b r s (both t u p) (original_unfit q h) = absurd (meets_fit t q h)
 unique_check a b r s (both t u p) (cut_unfit q v h) = absurd (meets_fit u q h)
 unique_check a b r s (both t u p) (both v w q) = one_parts (order v) (order w) (moved t v u w p) q
 
 -- ---- YES EXACTLY WHERE the second product is a cut of the first
-pub cut_is : {a b : List ℕ} → Cut a b → CheckIs a b C.Is
+pub cut_is : {a b : List ℕ} → Cut a b → CheckIs a b (Ok None)
 cut_is c = both c.original c.cut (is c.parts)
 
-pub is_cut : {a b : List ℕ} (r : Checked) → r ≡ C.Is → CheckIs a b r → Cut a b
+pub is_cut : {a b : List ℕ} (r : Result (Option ℕ) Refusal) → r ≡ Ok None → CheckIs a b r → Cut a b
 is_cut r e (original_unfit q g) = absurd (let z : ◌≡◌ {A = ℕ} 0 1 = cc in omega arith)
 is_cut r e (cut_unfit q t g) = absurd (let z : ◌≡◌ {A = ℕ} 0 1 = cc in omega arith)
 is_cut {a} {b} r e (both t u p) = go e p
   where
-    go : {r : Checked} → r ≡ C.Is → PartsCheck (main_of a) (main_of b) (records_at a t.list) (records_at b u.list) r → Cut a b
+    go : {r : Result (Option ℕ) Refusal} → r ≡ Ok None → PartsCheck (main_of a) (main_of b) (records_at a t.list) (records_at b u.list) r → Cut a b
     go e (is x) = record { original = t; cut = u; parts = x }
     go e (other_field d) = absurd (let z : ◌≡◌ {A = ℕ} 0 1 = cc in omega arith)
     go e (unmatched p f v) = absurd (let z : ◌≡◌ {A = ℕ} 0 1 = cc in omega arith)
@@ -129,15 +124,15 @@ placed {starts = starts} {p = p} f s l (P.unmatched xs y ys e q k n) =
     at_record p xs y ys f (subst (λ (z : ℕ). In z starts) (sym q) i) q e k n
 placed {m} {n} {rs} {cs} {starts} {long} f s l (P.missing k d q) = subst (NotAt m n rs cs starts long) (sym (q ∙ l)) (at_end f k d)
 
-pub no_at : {a b : List ℕ} (p : ℕ) (r : Checked) → r ≡ C.Not p → CheckIs a b r → No a b p
+pub no_at : {a b : List ℕ} (p : ℕ) (r : Result (Option ℕ) Refusal) → r ≡ Ok (Some p) → CheckIs a b r → No a b p
 no_at p r e (original_unfit q g) = absurd (let z : ◌≡◌ {A = ℕ} 0 1 = cc in omega arith)
 no_at p r e (cut_unfit q t g) = absurd (let z : ◌≡◌ {A = ℕ} 0 1 = cc in omega arith)
 no_at {a} {b} p r e (both t u k) = record { original = t; cut = u; stands = go e k }
   where
-    not-of : {i j : ℕ} → C.Not i ≡ C.Not j → i ≡ j
+    not-of : {i j : ℕ} → ◌≡◌ {A = Result (Option ℕ) Refusal} (Ok (Some i)) (Ok (Some j)) → i ≡ j
     not-of e = cc
 
-    go : {r : Checked} → r ≡ C.Not p → PartsCheck (main_of a) (main_of b) (records_at a t.list) (records_at b u.list) r → NotAt (main_of a) (main_of b) (records_at a t.list) (records_at b u.list) u.list (length b) p
+    go : {r : Result (Option ℕ) Refusal} → r ≡ Ok (Some p) → PartsCheck (main_of a) (main_of b) (records_at a t.list) (records_at b u.list) r → NotAt (main_of a) (main_of b) (records_at a t.list) (records_at b u.list) u.list (length b) p
     go e (is x) = absurd (let z : ◌≡◌ {A = ℕ} 0 1 = cc in omega arith)
     go e (other_field d) = subst (NotAt (main_of a) (main_of b) (records_at a t.list) (records_at b u.list) u.list (length b)) (not-of e) (field d)
     go e (unmatched q f v) =
@@ -145,26 +140,26 @@ no_at {a} {b} p r e (both t u k) = record { original = t; cut = u; stands = go e
         (placed f (starts_are b u) (walk_length (walk_first b u)) (no_stands 3307 (records_at b u.list) (only is_fixed (records_at a t.list)) (only is_mdr (records_at a t.list)) q v))
 
 -- and where it stands so, that is the answer
-pub at_no : {a b : List ℕ} {p : ℕ} → No a b p → CheckIs a b (C.Not p)
+pub at_no : {a b : List ℕ} {p : ℕ} → No a b p → CheckIs a b (Ok (Some p))
 at_no {a} {b} n = both n.original n.cut (go n.stands)
   where
     said : {p : ℕ} → NoAt (only is_fixed (records_at a n.original.list)) (only is_mdr (records_at a n.original.list)) 3307 (records_at b n.cut.list) p → verdict (records_at b n.cut.list) (records_at a n.original.list) ≡ unlike p
     said {p} k = stands_no 3307 (records_at b n.cut.list) (only is_fixed (records_at a n.original.list)) (only is_mdr (records_at a n.original.list)) p k
 
-    go : {p : ℕ} → NotAt (main_of a) (main_of b) (records_at a n.original.list) (records_at b n.cut.list) n.cut.list (length b) p → PartsCheck (main_of a) (main_of b) (records_at a n.original.list) (records_at b n.cut.list) (C.Not p)
+    go : {p : ℕ} → NotAt (main_of a) (main_of b) (records_at a n.original.list) (records_at b n.cut.list) n.cut.list (length b) p → PartsCheck (main_of a) (main_of b) (records_at a n.original.list) (records_at b n.cut.list) (Ok (Some p))
     go (field d) = other_field d
     go (at_record p xs y ys f i q e k m) = unmatched p f (said (P.unmatched xs y ys e q k m))
     go (at_end f k d) = unmatched (length b) f (said (P.missing k d (sym (walk_length (walk_first b n.cut)))))
 
 -- ---- every product is a cut of itself
-pub itself : {a : List ℕ} → Meets a → CheckIs a a C.Is
+pub itself : {a : List ℕ} → Meets a → CheckIs a a (Ok None)
 itself {a} t = both t t (is (cut_itself (main_of a) (records_at a t.list)))
 
 -- ---- a cut of a cut is a cut
-pub cut_of_cut : {a b c : List ℕ} → CheckIs a b C.Is → CheckIs b c C.Is → CheckIs a c C.Is
+pub cut_of_cut : {a b c : List ℕ} → CheckIs a b (Ok None) → CheckIs b c (Ok None) → CheckIs a c (Ok None)
 cut_of_cut {a} {b} {c} x y =
-    let p = is_cut C.Is refl x in
-    let q = is_cut C.Is refl y in
+    let p = is_cut (Ok None) refl x in
+    let q = is_cut (Ok None) refl y in
     let k : IsCutOf (main_of b) (main_of c) (records_at b p.cut.list) (records_at c q.cut.list) = subst (λ (l : List ℕ). IsCutOf (main_of b) (main_of c) (records_at b l) (records_at c q.cut.list)) (one_list q.original p.cut) q.parts in
     both p.original q.cut (is (cut_on p.parts k))
 
@@ -179,13 +174,13 @@ four_kept c u =
       spacecraft = sym (town_keeps c u 9 (named 9 (omega arith) (omega arith)));
     }
 
-pub three_is : {a b : List ℕ} {w : Window} (c : IsCut a w b) → Meets b → CheckIs a b C.Is
+pub three_is : {a b : List ℕ} {w : Window} (c : IsCut a w b) → Meets b → CheckIs a b (Ok None)
 three_is {a} {b} {w} c u =
     let rs = records_at a c.product.list in
     both c.product u (is (record { fields = four_kept c u; records = subst (λ (cs : List (List ℕ)). CutOf cs rs) (sym (town_records c u)) (cut_of (main_of a) w rs) }))
 
 -- ---- THE CUT BY A NARROWER WINDOW IS A CUT of the cut by a wider one, both of the same product
-pub narrower_is : {a b d : List ℕ} {w v : Window} (x : IsCut a v b) → Meets b → (z : IsCut a w d) → Meets d → Inside w v → CheckIs b d C.Is
+pub narrower_is : {a b d : List ℕ} {w v : Window} (x : IsCut a v b) → Meets b → (z : IsCut a w d) → Meets d → Inside w v → CheckIs b d (Ok None)
 narrower_is {a} {b} {d} {w} {v} x t z u i =
     let f = four_kept x t in
     let g = four_kept z u in

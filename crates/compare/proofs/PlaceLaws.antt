@@ -6,35 +6,27 @@ use mathlib.Core.Bool.{Bool}
 use mathlib.Core.List.{List}
 use borrow.Author.Tests.{le-leb}
 use lib.ListN.{take, drop}
-use Rattle.calendar.specs.Said.{answer, refused}
+use Rattle.calendar.specs.Said.{answer}
 use Rattle.calendar.specs.declared.Refusal.{Refusal}
-use Rattle.mphr.specs.Layout.{width_of, kind_of, line_start, field_of, said_place}
+use Rattle.mphr.specs.Layout.{width_of, kind_of, line_start, field_of}
 use Rattle.mphr.specs.declared.layout.Place.{Place}
-use Rattle.mphr.specs.declared.layout.FieldPlace.{FieldPlace}
-use Rattle.mphr.specs.declared.layout.FieldPlace.TheVariants as P
+use Rattle.std.specs.declared.result.Result.TheVariants.{Ok}
+use Rattle.std.specs.declared.result.Result.{Result}
+use Rattle.calendar.specs.Said.{said}
 use Rattle.mphr.proofs.LayoutLaws.{start_next, start_mono, start_72}
 use Rattle.parts.specs.Rewritten.{value_of}
 use Rattle.bytewise.specs.Comparing.{SameIs}
 
-pub place_is : (k : ℕ) (r : FieldPlace) (p : Place) → k < 72 → r ≡ P.Place p → said_place r ≡ field_of k → (p.start ≡ line_start k) × (p.width ≡ width_of k)
+pub place_is : (k : ℕ) (r : Result Place Refusal) (p : Place) → k < 72 → r ≡ Ok p → said r ≡ field_of k → (p.start ≡ line_start k) × (p.width ≡ width_of k)
 place_is k r p h e s =
     let q : Place = record { start = line_start k; width = width_of k; kind = kind_of k } in
     let f : field_of k ≡ answer q = rw (le-leb k 71 (omega arith)) refl in
-    let b : answer p ≡ answer q = sym (ap said_place e) ∙ s ∙ f in
+    let b : answer p ≡ answer q = sym (ap said e) ∙ s ∙ f in
     let d : p ≡ q = answered b in
     (ap (λ (x : Place). x.start) d, ap (λ (x : Place). x.width) d)
   where
     answered : {p q : Place} → answer p ≡ answer q → p ≡ q
     answered e = cc
-
-pub place_lost : (k : ℕ) (r : FieldPlace) (x : Refusal) → k < 72 → r ≡ P.Refused x → said_place r ≡ field_of k → ⊥
-place_lost k r x h e s =
-    let q : Place = record { start = line_start k; width = width_of k; kind = kind_of k } in
-    let f : field_of k ≡ answer q = rw (le-leb k 71 (omega arith)) refl in
-    never x q (sym (ap said_place e) ∙ s ∙ f)
-  where
-    never : (x : Refusal) (q : Place) → refused x ≡ answer q → ⊥
-    never x q e = let z : ◌≡◌ {A = ℕ} 0 1 = cc in omega arith
 
 pub line_room : (k : ℕ) → k < 72 → line_start k + 32 + width_of k ≤ 3307
 line_room k h = omega (arith, start_next k, start_mono {j = suc k} {k = 72} h, start_72)

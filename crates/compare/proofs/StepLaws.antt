@@ -14,11 +14,8 @@ use Rattle.parts.specs.Against.{same, Found, before, earliest, unlike, is_fixed,
 use Rattle.parts.specs.Walk.{Walk}
 use Rattle.parts.proofs.WalkLaws.{Next, next, walk_next, walk_none, ahead_size, ahead_class, one_walk}
 use Rattle.parts.proofs.AgainstLaws.{same_is, same_refl}
-use Rattle.compare.specs.declared.walk.Taken.{Taken}
-use Rattle.compare.specs.declared.walk.Taken.TheVariants as K
-use Rattle.compare.specs.declared.walk.Turned.{Turned}
-use Rattle.compare.specs.declared.walk.Turned.TheVariants as U
-use Rattle.compare.specs.declared.walk.Compared.TheVariants as R
+use Rattle.std.specs.declared.option.Option.TheVariants.{Some, None}
+use Rattle.compare.specs.declared.walk.Places.{Places}
 use Rattle.compare.specs.Comparing.{Standing}
 use Rattle.compare.specs.Walking.{fixed_class, Fixing, NextIs, Seeking, FixedIs, EarliestIs, Left, left_verdict, Turning, GoesOn, TurnedIs, Both, RecordsIs, Comparing}
 use Rattle.bytewise.proofs.CompareLaws.{part_long}
@@ -88,12 +85,6 @@ skip_on s l e =
       same = λ rs w. s.same rs w ∙ ap (only is_fixed) h.split ∙ ap (λ (b : Bool). cond b (h.one ∷ only is_fixed h.after) (only is_fixed h.after)) n;
     }
 
-pub skip_found : {a : List ℕ} {f i : ℕ} → Skipping a f i → fixed_class (get_or a i 0) ≡ true → NextIs a f i
-skip_found s e = record { rest = s.rest; walk = s.walk; same = s.same; first = λ _. e }
-
-pub skip_end : {a : List ℕ} {f i : ℕ} → Skipping a f i → length a ≤ i → NextIs a f i
-skip_end s l = record { rest = s.rest; walk = s.walk; same = s.same; first = λ h. absurd (omega arith) }
-
 -- none is left; or the next is the first of those that are left
 next_none : {a : List ℕ} {f j : ℕ} (n : NextIs a f j) → length a ≤ j → (rs : List (List ℕ)) → Walk a f rs → only is_fixed rs ≡ []
 next_none n l rs w = n.same rs w ∙ ap (only is_fixed) (walk_none n.walk l)
@@ -105,22 +96,22 @@ next_one n l rs w =
 
 -- ---- AN SPHR OR AUXILIARY RECORD of the cut
 module _ {a : List ℕ} {i : ℕ} {b : List ℕ} {j n : ℕ} (s : Seeking a i b j n) {r : ℕ} (x : NextIs a i r) where
-  pub fixed_none : length a ≤ r → FixedIs a i b j n K.Nowhere
+  pub fixed_none : length a ≤ r → FixedIs a i b j n None
   fixed_none l rs w k p = ap (λ (fs : List (List ℕ)). on_next (take n (drop j b)) fs k p) (next_none x l rs w)
 
   pub fixed_stands : r < length a → Standing a r
   fixed_stands l = (here x.walk l).stands
 
-  pub fixed_other : r < length a → (take n (drop j b) ≡ record_at a r → ⊥) → FixedIs a i b j n K.Nowhere
+  pub fixed_other : r < length a → (take n (drop j b) ≡ record_at a r → ⊥) → FixedIs a i b j n None
   fixed_other l d rs w k p =
       let h = here x.walk l in
       ap (λ (fs : List (List ℕ)). on_next (take n (drop j b)) fs k p) (next_one x l rs w)
       ∙ ap (λ (t : Bool). cond t (k (only is_fixed h.after)) (unlike p)) (same_not (take n (drop j b)) h.one (λ e. d (e ∙ sym h.part)))
 
-  pub fixed_long : (l : r < length a) → take n (drop j b) ≡ record_at a r → n ≡ size a r
+  fixed_long : (l : r < length a) → take n (drop j b) ≡ record_at a r → n ≡ size a r
   fixed_long l e = let h = here x.walk l in sym (part_long b j n s.come) ∙ ap length (e ∙ h.part) ∙ sym h.long
 
-  pub fixed_same : r < length a → take n (drop j b) ≡ record_at a r → FixedIs a i b j n (K.After (r + n))
+  pub fixed_same : r < length a → take n (drop j b) ≡ record_at a r → FixedIs a i b j n (Some (r + n))
   fixed_same l e rs w =
       let h = here x.walk l in
       record {
@@ -182,10 +173,10 @@ module _ {a : List ℕ} {f : ℕ} {b : List ℕ} {j n i : ℕ} (s : Searching a 
             ∙ passed (take n (drop j b)) h.one h.after (λ e. d (e ∙ sym h.part));
       }
 
-  pub search_long : (l : i < length a) → take n (drop j b) ≡ record_at a i → n ≡ size a i
+  search_long : (l : i < length a) → take n (drop j b) ≡ record_at a i → n ≡ size a i
   search_long l e = let h = here s.walk l in sym (part_long b j n s.seeking.come) ∙ ap length (e ∙ h.part) ∙ sym h.long
 
-  pub search_found : i < length a → take n (drop j b) ≡ record_at a i → EarliestIs a f b j n (K.After (i + n))
+  pub search_found : i < length a → take n (drop j b) ≡ record_at a i → EarliestIs a f b j n (Some (i + n))
   search_found l e rs w m =
       let h = here s.walk l in
       record {
@@ -198,19 +189,9 @@ module _ {a : List ℕ} {f : ℕ} {b : List ℕ} {j n i : ℕ} (s : Searching a 
             ∙ met (take n (drop j b)) h.one h.after m (e ∙ h.part));
       }
 
-  pub search_end : length a ≤ i → EarliestIs a f b j n K.Nowhere
+  pub search_end : length a ≤ i → EarliestIs a f b j n None
   search_end l rs w m k p =
       ap (λ (x : Found). on_match x k p) (s.same rs w m ∙ ap (λ (ms : List (List ℕ)). earliest (take n (drop j b)) (only is_mdr ms)) (walk_none s.walk l))
-
--- an answer by the variant that it is
-pub fixed_at : (a : List ℕ) (i : ℕ) (b : List ℕ) (j n : ℕ) {r s : Taken} → r ≡ s → FixedIs a i b j n r → FixedIs a i b j n s
-fixed_at a i b j n e x = subst (λ (t : Taken). FixedIs a i b j n t) e x
-
-pub earliest_at : (a : List ℕ) (i : ℕ) (b : List ℕ) (j n : ℕ) {r s : Taken} → r ≡ s → EarliestIs a i b j n r → EarliestIs a i b j n s
-earliest_at a i b j n e x = subst (λ (t : Taken). EarliestIs a i b j n t) e x
-
-pub turned_at : (a : List ℕ) (f m : ℕ) (b : List ℕ) (i n : ℕ) {r s : Turned} → r ≡ s → TurnedIs a f m b i n r → TurnedIs a f m b i n s
-turned_at a f m b i n e x = subst (λ (t : Turned). TurnedIs a f m b i n t) e x
 
 -- ---- WHAT IS LEFT is one
 left_one : {a : List ℕ} {f m : ℕ} {b : List ℕ} {i : ℕ} (l k : Left a f m b i) → left_verdict l ≡ left_verdict k
@@ -233,7 +214,7 @@ against_fixed :
     → against i (c ∷ cs) fs ms ≡ on_next c fs (λ (xs : List (List ℕ)). against (i + length c) cs xs ms) i
 against_fixed i c cs fs ms d e = rw (ne_eqb (class c 0) 3 d, ne_eqb (class c 0) 8 e) refl
 
-module _ {a : List ℕ} {f m : ℕ} {b : List ℕ} {i n : ℕ} (t : Turning a f m b i n) where
+module _ {a : List ℕ} {z : Places} {b : List ℕ} {i n : ℕ} (t : Turning a z b i n) where
   at : Here b i t.left.cs
   at = here t.left.cut t.inside
 
@@ -249,16 +230,16 @@ module _ {a : List ℕ} {f m : ℕ} {b : List ℕ} {i n : ℕ} (t : Turning a f 
   walks : Walk b (i + n) at.after
   walks = subst (λ (k : ℕ). Walk b (i + k) at.after) (sym t.sized) at.walk
 
-  pub turn_mdr : Seeking a m b i n
+  pub turn_mdr : Seeking a z.mdr b i n
   turn_mdr = record { fixing = record { small = t.small; records = t.left.ms; walk = t.left.mdrs }; come = turn_come }
 
-  pub turn_fixed : Seeking a f b i n
+  pub turn_fixed : Seeking a z.fixed b i n
   turn_fixed = record { fixing = record { small = t.small; records = t.left.fs; walk = t.left.fixed }; come = turn_come }
 
-  whole : (l : Left a f m b i) → left_verdict l ≡ against i (at.one ∷ at.after) (only is_fixed t.left.fs) (only is_mdr t.left.ms)
+  whole : (l : Left a z.fixed z.mdr b i) → left_verdict l ≡ against i (at.one ∷ at.after) (only is_fixed t.left.fs) (only is_mdr t.left.ms)
   whole l = left_one l t.left ∙ ap (λ (x : List (List ℕ)). against i x (only is_fixed t.left.fs) (only is_mdr t.left.ms)) at.split
 
-  pub on_pointer : get_or b i 0 ≡ 3 → GoesOn a f m b i n f m
+  pub on_pointer : get_or b i 0 ≡ 3 → GoesOn a z b i n z
   on_pointer e = record {
     left = record { cs = at.after; fs = t.left.fs; ms = t.left.ms; cut = walks; fixed = t.left.fixed; mdrs = t.left.mdrs };
     same = λ l.
@@ -271,17 +252,17 @@ module _ {a : List ℕ} {f m : ℕ} {b : List ℕ} {i n : ℕ} (t : Turning a f 
     is_mdr_lem : is_mdr (take n (drop i b)) ≡ true
     is_mdr_lem = ap is_mdr part ∙ eq-eqb (class at.one 0) 8 (sym at.class ∙ e)
 
-    mdr_step : (l : Left a f m b i) → left_verdict l ≡ on_match (earliest (take n (drop i b)) (only is_mdr t.left.ms)) (λ (xs : List (List ℕ)). against (i + n) at.after (only is_fixed t.left.fs) xs) i
+    mdr_step : (l : Left a z.fixed z.mdr b i) → left_verdict l ≡ on_match (earliest (take n (drop i b)) (only is_mdr t.left.ms)) (λ (xs : List (List ℕ)). against (i + n) at.after (only is_fixed t.left.fs) xs) i
     mdr_step l =
         whole l
         ∙ against_mdr i at.one at.after (only is_fixed t.left.fs) (only is_mdr t.left.ms) (sym at.class ∙ e)
         ∙ ap (λ (k : ℕ). on_match (earliest at.one (only is_mdr t.left.ms)) (λ (xs : List (List ℕ)). against k at.after (only is_fixed t.left.fs) xs) i) long
         ∙ ap (λ (c : List ℕ). on_match (earliest c (only is_mdr t.left.ms)) (λ (xs : List (List ℕ)). against (i + n) at.after (only is_fixed t.left.fs) xs) i) (sym part)
 
-    pub mdr_nowhere : EarliestIs a m b i n K.Nowhere → TurnedIs a f m b i n U.Unmatched
+    pub mdr_nowhere : EarliestIs a z.mdr b i n None → TurnedIs a z b i n None
     mdr_nowhere x l = mdr_step l ∙ x t.left.ms t.left.mdrs is_mdr_lem (λ (xs : List (List ℕ)). against (i + n) at.after (only is_fixed t.left.fs) xs) i
 
-    pub mdr_after : (j : ℕ) → EarliestIs a m b i n (K.After j) → TurnedIs a f m b i n (U.Go f j)
+    pub mdr_after : (j : ℕ) → EarliestIs a z.mdr b i n (Some j) → TurnedIs a z b i n (Some (record { fixed = z.fixed; mdr = j }))
     mdr_after j x =
         let g = x t.left.ms t.left.mdrs is_mdr_lem in
         record {
@@ -290,17 +271,17 @@ module _ {a : List ℕ} {f m : ℕ} {b : List ℕ} {i n : ℕ} (t : Turning a f 
         }
 
   module _ (d : get_or b i 0 ≡ 3 → ⊥) (e : get_or b i 0 ≡ 8 → ⊥) where
-    fixed_step : (l : Left a f m b i) → left_verdict l ≡ on_next (take n (drop i b)) (only is_fixed t.left.fs) (λ (xs : List (List ℕ)). against (i + n) at.after xs (only is_mdr t.left.ms)) i
+    fixed_step : (l : Left a z.fixed z.mdr b i) → left_verdict l ≡ on_next (take n (drop i b)) (only is_fixed t.left.fs) (λ (xs : List (List ℕ)). against (i + n) at.after xs (only is_mdr t.left.ms)) i
     fixed_step l =
         whole l
         ∙ against_fixed i at.one at.after (only is_fixed t.left.fs) (only is_mdr t.left.ms) (λ x. d (at.class ∙ x)) (λ x. e (at.class ∙ x))
         ∙ ap (λ (k : ℕ). on_next at.one (only is_fixed t.left.fs) (λ (xs : List (List ℕ)). against k at.after xs (only is_mdr t.left.ms)) i) long
         ∙ ap (λ (c : List ℕ). on_next c (only is_fixed t.left.fs) (λ (xs : List (List ℕ)). against (i + n) at.after xs (only is_mdr t.left.ms)) i) (sym part)
 
-    pub fixed_nowhere : FixedIs a f b i n K.Nowhere → TurnedIs a f m b i n U.Unmatched
+    pub fixed_nowhere : FixedIs a z.fixed b i n None → TurnedIs a z b i n None
     fixed_nowhere x l = fixed_step l ∙ x t.left.fs t.left.fixed (λ (xs : List (List ℕ)). against (i + n) at.after xs (only is_mdr t.left.ms)) i
 
-    pub fixed_after : (j : ℕ) → FixedIs a f b i n (K.After j) → TurnedIs a f m b i n (U.Go j m)
+    pub fixed_after : (j : ℕ) → FixedIs a z.fixed b i n (Some j) → TurnedIs a z b i n (Some (record { fixed = j; mdr = z.mdr }))
     fixed_after j x =
         let g = x t.left.fs t.left.fixed in
         record {
@@ -309,32 +290,29 @@ module _ {a : List ℕ} {f m : ℕ} {b : List ℕ} {i n : ℕ} (t : Turning a f 
         }
 
 -- ---- ALL OF THEM
-pub compare_first : {a b : List ℕ} → Both a b → Comparing a 3307 3307 b 3307
+pub compare_first : {a b : List ℕ} → Both a b → Comparing a (record { fixed = 3307; mdr = 3307 }) b 3307
 compare_first z = record {
   left = z.left;
   same = λ rs cs w v. left_one (record { cs = cs; fs = rs; ms = rs; cut = v; fixed = w; mdrs = w }) z.left;
 }
 
-module _ {a : List ℕ} {f m : ℕ} {b : List ℕ} {i : ℕ} (z : Comparing a f m b i) where
+module _ {a : List ℕ} {p : Places} {b : List ℕ} {i : ℕ} (z : Comparing a p b i) where
   pub compare_stands : i < length b → Standing b i
   compare_stands l = (here z.left.cut l).stands
 
   pub compare_least : i < length b → 20 ≤ size b i
   compare_least l = (here z.left.cut l).least
 
-  pub compare_on : (n f' m' : ℕ) → TurnedIs a f m b i n (U.Go f' m') → Comparing a f' m' b (i + n)
-  compare_on n f' m' g = record { left = g.left; same = λ rs cs w v. z.same rs cs w v ∙ g.same z.left }
-
-  pub compare_stop : (n : ℕ) → TurnedIs a f m b i n U.Unmatched → RecordsIs a b (R.Unlike i)
-  compare_stop n u rs cs w v = z.same rs cs w v ∙ u z.left
+  pub compare_on : (n : ℕ) (q : Places) → TurnedIs a p b i n (Some q) → Comparing a q b (i + n)
+  compare_on n q g = record { left = g.left; same = λ rs cs w v. z.same rs cs w v ∙ g.same z.left }
 
   ends : length b ≤ i → left_verdict z.left ≡ against i [] (only is_fixed z.left.fs) (only is_mdr z.left.ms)
   ends l = ap (λ (x : List (List ℕ)). against i x (only is_fixed z.left.fs) (only is_mdr z.left.ms)) (walk_none z.left.cut l)
 
-  pub compare_missing : length b ≤ i → (r : ℕ) → NextIs a f r → r < length a → RecordsIs a b (R.Unlike i)
+  pub compare_missing : length b ≤ i → (r : ℕ) → NextIs a p.fixed r → r < length a → RecordsIs a b (Some i)
   compare_missing l r x h rs cs w v =
       z.same rs cs w v ∙ ends l ∙ ap (λ (fs : List (List ℕ)). against i [] fs (only is_mdr z.left.ms)) (next_one x h z.left.fs z.left.fixed)
 
-  pub compare_alike : length b ≤ i → (r : ℕ) → NextIs a f r → length a ≤ r → RecordsIs a b R.Alike
+  pub compare_alike : length b ≤ i → (r : ℕ) → NextIs a p.fixed r → length a ≤ r → RecordsIs a b None
   compare_alike l r x h rs cs w v =
       z.same rs cs w v ∙ ends l ∙ ap (λ (fs : List (List ℕ)). against i [] fs (only is_mdr z.left.ms)) (next_none x h z.left.fs z.left.fixed)

@@ -7,17 +7,15 @@ use Rattle.std.specs.Prelude.{ℕ, ◌+◌, ◌≡◌, length}
 use mathlib.Core.List.{List, [], ◌∷◌, ◌++◌, Memᴰ as In}
 use Rattle.calendar.specs.declared.Refusal.{Refusal}
 use Rattle.finish.specs.Finish.{VerdictIs}
-use Rattle.finish.specs.declared.Finished.TheVariants as F
+use Rattle.std.specs.declared.option.Option.TheVariants.{Some, None}
+use Rattle.std.specs.declared.result.Result.TheVariants.{Ok, Err}
+use Rattle.std.specs.declared.option.Option.{Option}
+use Rattle.std.specs.declared.result.Result.{Result}
 use Rattle.demands.specs.Product.{Meets}
 use Rattle.parts.specs.Parts.{bytes, main_of, records_at}
 use Rattle.parts.specs.Only.{only, is_mdr}
 use Rattle.parts.specs.Against.{CutOf, unlike, is_fixed, verdict, Matches}
 use Rattle.parts.specs.Pass.{FourAgree}
-use Rattle.compare.specs.declared.cut.Checked.{Checked}
-use Rattle.compare.specs.declared.cut.Checked.TheVariants as C
-
-abbrev pub refused_at : ℕ → ℕ → Checked
-refused_at n p = C.Refused (record { number = n; place = p })
 
 -- A CUT, by the parts: the main header n and the records cs after it are those of a cut of a product of main header m and records rs
 pub record IsCutOf (m n : List ℕ) (rs cs : List (List ℕ)) : Type 0 where
@@ -25,17 +23,17 @@ pub record IsCutOf (m n : List ℕ) (rs cs : List (List ℕ)) : Type 0 where
   pub records : CutOf cs rs
 
 -- of an original and a cut, by their parts
-pub data PartsCheck (m n : List ℕ) (rs cs : List (List ℕ)) : Checked → Type 0 where
-  is : IsCutOf m n rs cs → PartsCheck m n rs cs C.Is
-  other_field : (FourAgree m n → ⊥) → PartsCheck m n rs cs (C.Not 0)
-  unmatched : (p : ℕ) → FourAgree m n → verdict cs rs ≡ unlike p → PartsCheck m n rs cs (C.Not p)
+pub data PartsCheck (m n : List ℕ) (rs cs : List (List ℕ)) : Result (Option ℕ) Refusal → Type 0 where
+  is : IsCutOf m n rs cs → PartsCheck m n rs cs (Ok None)
+  other_field : (FourAgree m n → ⊥) → PartsCheck m n rs cs (Ok (Some 0))
+  unmatched : (p : ℕ) → FourAgree m n → verdict cs rs ≡ unlike p → PartsCheck m n rs cs (Ok (Some p))
 
 -- of the bytes a of an original and b of a cut
-pub data CheckIs (a b : List ℕ) : Checked → Type 0 where
-  original_unfit : (r : Refusal) → VerdictIs a (F.Refused r) → CheckIs a b (C.Refused r)
-  cut_unfit : (r : Refusal) → Meets a → VerdictIs b (F.Refused r) → CheckIs a b (C.Refused r)
+pub data CheckIs (a b : List ℕ) : Result (Option ℕ) Refusal → Type 0 where
+  original_unfit : (r : Refusal) → VerdictIs a (Err r) → CheckIs a b (Err r)
+  cut_unfit : (r : Refusal) → Meets a → VerdictIs b (Err r) → CheckIs a b (Err r)
   both :
-      {r : Checked} (t : Meets a) (u : Meets b) → PartsCheck (main_of a) (main_of b) (records_at a t.list) (records_at b u.list) r → CheckIs a b r
+      {r : Result (Option ℕ) Refusal} (t : Meets a) (u : Meets b) → PartsCheck (main_of a) (main_of b) (records_at a t.list) (records_at b u.list) r → CheckIs a b r
 
 -- YES, of the bytes a and b: two products, and the second is a cut of the first
 pub record Cut (a b : List ℕ) : Type 0 where

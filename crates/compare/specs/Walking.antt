@@ -4,12 +4,9 @@ use Rattle.demands.specs.Product.{size, Meets}
 use Rattle.parts.specs.Only.{only, is_mdr}
 use Rattle.parts.specs.Against.{Verdict, alike, unlike, earliest, is_fixed, on_match, on_next, against, verdict}
 use Rattle.parts.specs.Walk.{Walk}
-use Rattle.compare.specs.declared.walk.Taken.{Taken}
-use Rattle.compare.specs.declared.walk.Taken.TheVariants as K
-use Rattle.compare.specs.declared.walk.Turned.{Turned}
-use Rattle.compare.specs.declared.walk.Turned.TheVariants as U
-use Rattle.compare.specs.declared.walk.Compared.{Compared}
-use Rattle.compare.specs.declared.walk.Compared.TheVariants as R
+use Rattle.std.specs.declared.option.Option.TheVariants.{Some, None}
+use Rattle.std.specs.declared.option.Option.{Option}
+use Rattle.compare.specs.declared.walk.Places.{Places}
 
 -- by its class, a record is neither a pointer nor an MDR
 abbrev pub fixed_class : ℕ → Bool
@@ -39,14 +36,14 @@ pub record Goes (a : List ℕ) (j : ℕ) (step : (List (List ℕ) → Verdict) �
   pub walk : Walk a j rest
   pub goes : (k : List (List ℕ) → Verdict) (p : ℕ) → step k p ≡ k (left rest)
 
-abbrev pub TakenIs : List ℕ → ((List (List ℕ) → Verdict) → ℕ → Verdict) → (List (List ℕ) → List (List ℕ)) → Taken → Type 0
-TakenIs a step left K.Nowhere = (k : List (List ℕ) → Verdict) (p : ℕ) → step k p ≡ unlike p
-TakenIs a step left (K.After j) = Goes a j step left
+abbrev pub TakenIs : List ℕ → ((List (List ℕ) → Verdict) → ℕ → Verdict) → (List (List ℕ) → List (List ℕ)) → Option ℕ → Type 0
+TakenIs a step left None = (k : List (List ℕ) → Verdict) (p : ℕ) → step k p ≡ unlike p
+TakenIs a step left (Some j) = Goes a j step left
 
-abbrev pub FixedIs : List ℕ → ℕ → List ℕ → ℕ → ℕ → Taken → Type 0
+abbrev pub FixedIs : List ℕ → ℕ → List ℕ → ℕ → ℕ → Option ℕ → Type 0
 FixedIs a i b j n r = (rs : List (List ℕ)) → Walk a i rs → TakenIs a (on_next (take n (drop j b)) (only is_fixed rs)) (only is_fixed) r
 
-abbrev pub EarliestIs : List ℕ → ℕ → List ℕ → ℕ → ℕ → Taken → Type 0
+abbrev pub EarliestIs : List ℕ → ℕ → List ℕ → ℕ → ℕ → Option ℕ → Type 0
 EarliestIs a i b j n r =
     (rs : List (List ℕ)) → Walk a i rs → is_mdr (take n (drop j b)) ≡ true → TakenIs a (on_match (earliest (take n (drop j b)) (only is_mdr rs))) (only is_mdr) r
 
@@ -63,20 +60,20 @@ abbrev pub left_verdict : {a : List ℕ} {f m : ℕ} {b : List ℕ} {i : ℕ} �
 left_verdict {i = i} l = against i l.cs (only is_fixed l.fs) (only is_mdr l.ms)
 
 -- a turn, at the cut's record of n bytes at byte i
-pub record Turning (a : List ℕ) (f m : ℕ) (b : List ℕ) (i n : ℕ) : Type 0 where
+pub record Turning (a : List ℕ) (p : Places) (b : List ℕ) (i n : ℕ) : Type 0 where
   pub small : length a ≤ 2147483647
-  pub left : Left a f m b i
+  pub left : Left a p.fixed p.mdr b i
   pub inside : i < length b
   pub sized : n ≡ size b i
 
 -- what is left after it says the same
-pub record GoesOn (a : List ℕ) (f m : ℕ) (b : List ℕ) (i n f' m' : ℕ) : Type 0 where
-  pub left : Left a f' m' b (i + n)
-  pub same : (l : Left a f m b i) → left_verdict l ≡ left_verdict left
+pub record GoesOn (a : List ℕ) (p : Places) (b : List ℕ) (i n : ℕ) (q : Places) : Type 0 where
+  pub left : Left a q.fixed q.mdr b (i + n)
+  pub same : (l : Left a p.fixed p.mdr b i) → left_verdict l ≡ left_verdict left
 
-abbrev pub TurnedIs : List ℕ → ℕ → ℕ → List ℕ → ℕ → ℕ → Turned → Type 0
-TurnedIs a f m b i n U.Unmatched = (l : Left a f m b i) → left_verdict l ≡ unlike i
-TurnedIs a f m b i n (U.Go f' m') = GoesOn a f m b i n f' m'
+abbrev pub TurnedIs : List ℕ → Places → List ℕ → ℕ → ℕ → Option Places → Type 0
+TurnedIs a p b i n None = (l : Left a p.fixed p.mdr b i) → left_verdict l ≡ unlike i
+TurnedIs a p b i n (Some q) = GoesOn a p b i n q
 
 -- the records of two products
 pub record Both (a b : List ℕ) : Type 0 where
@@ -84,16 +81,16 @@ pub record Both (a b : List ℕ) : Type 0 where
   pub short : length b ≤ 2147483647
   pub left : Left a 3307 3307 b 3307
 
-abbrev pub compared_as : Compared → Verdict
-compared_as R.Alike = alike
-compared_as (R.Unlike p) = unlike p
+abbrev pub compared_as : Option ℕ → Verdict
+compared_as None = alike
+compared_as (Some p) = unlike p
 
-abbrev pub RecordsIs : List ℕ → List ℕ → Compared → Type 0
+abbrev pub RecordsIs : List ℕ → List ℕ → Option ℕ → Type 0
 RecordsIs a b r = (rs cs : List (List ℕ)) → Walk a 3307 rs → Walk b 3307 cs → verdict cs rs ≡ compared_as r
 
 -- between two turns
-pub record Comparing (a : List ℕ) (f m : ℕ) (b : List ℕ) (i : ℕ) : Type 0 where
-  pub left : Left a f m b i
+pub record Comparing (a : List ℕ) (p : Places) (b : List ℕ) (i : ℕ) : Type 0 where
+  pub left : Left a p.fixed p.mdr b i
   pub same : (rs cs : List (List ℕ)) → Walk a 3307 rs → Walk b 3307 cs → verdict cs rs ≡ left_verdict left
 
 -- two products

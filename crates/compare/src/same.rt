@@ -7,7 +7,7 @@ ghost use Rattle.bytewise.specs.Comparing.{Decides, SameIs};
 ghost use Rattle.compare.specs.Comparing.{Standing};
 
 use bytewise::is_same;
-use mphr::layout::{FieldPlace, field_place};
+use mphr::layout::field_place;
 use record::header::size_at;
 
 // The record of the original at `from` is that of the cut at `at`, of `size` bytes.
@@ -15,17 +15,14 @@ pub(crate) fn is_record(original: &[u8], from: usize, cut: &[u8], at: usize, siz
     requires { Standing original.now from × (at + size ≤ length cut.now) }
     ensures { SameIs (take size (drop at cut.now)) (record_at original.now from) result }
 {
-    if size_at(original, from) != size {
-        return false;
-    }
-    is_same(cut, at, original, from, size)
+    size_at(original, from) == size && is_same(cut, at, original, from, size)
 }
 
 fn is_agreed(m: &[u8], n: &[u8], k: usize) -> bool
     requires { (k < 72) × (length m.now ≡ 3307) × (length n.now ≡ 3307) }
     ensures { SameIs (value_of m.now k) (value_of n.now k) result }
 {
-    let FieldPlace::Place(place) = field_place(k) else {
+    let Ok(place) = field_place(k) else {
         return false;
     };
     is_same(m, place.start + 32, n, place.start + 32, place.width)
@@ -36,14 +33,5 @@ pub(crate) fn four_agree(m: &[u8], n: &[u8]) -> bool
     requires { (length m.now ≡ 3307) × (length n.now ≡ 3307) }
     ensures { Decides (FourAgree m.now n.now) result }
 {
-    if !is_agreed(m, n, 5) {
-        return false;
-    }
-    if !is_agreed(m, n, 7) {
-        return false;
-    }
-    if !is_agreed(m, n, 8) {
-        return false;
-    }
-    is_agreed(m, n, 9)
+    is_agreed(m, n, 5) && is_agreed(m, n, 7) && is_agreed(m, n, 8) && is_agreed(m, n, 9)
 }

@@ -6,37 +6,18 @@ ghost use Rattle.compare.specs.Walking.{fixed_class, Fixing, NextIs, Seeking, Ea
 use crate::same::is_record;
 use record::header::size_at;
 
-// Where the walk goes on after a match.
+// Where the walk goes on in the original.
 #[derive(Clone, Copy)]
-enum Taken {
-    Nowhere,
-    After(usize),
-}
-
-#[derive(Clone, Copy)]
-enum Turned {
-    Unmatched,
-    Go { fixed: usize, mdr: usize },
-}
-
-// What the records say; `Unlike` has its place.
-#[derive(Clone, Copy)]
-pub(crate) enum Compared {
-    Alike,
-    Unlike(usize),
+struct Places {
+    fixed: usize,
+    mdr: usize,
 }
 
 // An SPHR or an auxiliary record: neither a pointer nor an MDR.
 fn is_fixed(class: u8) -> bool
     ensures { result ≡ fixed_class class }
 {
-    if class == 3 {
-        return false;
-    }
-    if class == 8 {
-        return false;
-    }
-    true
+    class != 3 && class != 8
 }
 
 // The first record from `from` on that is neither a pointer nor an MDR, or the end.
@@ -55,78 +36,71 @@ fn next_fixed(original: &[u8], from: usize) -> usize
 }
 
 // "SPHR and auxiliary records against the original's next such".
-fn take_next(original: &[u8], from: usize, cut: &[u8], at: usize, size: usize) -> Taken
+fn take_next(original: &[u8], from: usize, cut: &[u8], at: usize, size: usize) -> Option<usize>
     requires { Seeking original.now from cut.now at size }
     ensures { FixedIs original.now from cut.now at size result }
 {
     let next = next_fixed(original, from);
-    if next >= original.len() {
-        return Taken::Nowhere;
+    if next < original.len() && is_record(original, next, cut, at, size) {
+        Some(next + size)
+    } else {
+        None
     }
-    if !is_record(original, next, cut, at, size) {
-        return Taken::Nowhere;
-    }
-    Taken::After(next + size)
 }
 
 // "each MDR taking the earliest match left".
-fn take_earliest(original: &[u8], from: usize, cut: &[u8], at: usize, size: usize) -> Taken
+fn take_earliest(original: &[u8], from: usize, cut: &[u8], at: usize, size: usize) -> Option<usize>
     requires { Seeking original.now from cut.now at size }
     ensures { EarliestIs original.now from cut.now at size result }
 {
     let mut next = from;
     while next < original.len() {
         if is_record(original, next, cut, at, size) {
-            return Taken::After(next + size);
+            return Some(next + size);
         }
         next += size_at(original, next);
     }
-    Taken::Nowhere
+    None
 }
 
-// A turn, at the cut's record of `size` bytes at `at`.
-fn turn(original: &[u8], fixed: usize, mdr: usize, cut: &[u8], at: usize, size: usize) -> Turned
-    requires { Turning original.now fixed mdr cut.now at size }
-    ensures { TurnedIs original.now fixed mdr cut.now at size result }
+// A turn, at the cut's record of `size` bytes at `at`: where the walk goes on, if the record is matched.
+fn turn(original: &[u8], from: Places, cut: &[u8], at: usize, size: usize) -> Option<Places>
+    requires { Turning original.now from cut.now at size }
+    ensures { TurnedIs original.now from cut.now at size result }
 {
-    let class = cut[at];
-    if class == 3 {
-        return Turned::Go { fixed, mdr };
-    }
-    if class == 8 {
-        return match take_earliest(original, mdr, cut, at, size) {
-            Taken::Nowhere => Turned::Unmatched,
-            Taken::After(next) => Turned::Go { fixed, mdr: next },
-        };
-    }
-    match take_next(original, fixed, cut, at, size) {
-        Taken::Nowhere => Turned::Unmatched,
-        Taken::After(next) => Turned::Go { fixed: next, mdr },
+    match cut[at] {
+        3 => Some(from),
+        8 => {
+            let mdr = take_earliest(original, from.mdr, cut, at, size)?;
+            Some(Places { mdr, ..from })
+        }
+        _ => {
+            let fixed = take_next(original, from.fixed, cut, at, size)?;
+            Some(Places { fixed, ..from })
+        }
     }
 }
 
-pub(crate) fn compare_records(original: &[u8], cut: &[u8]) -> Compared
+// Where the records of the cut are no longer the original's, if that comes.
+pub(crate) fn compare_records(original: &[u8], cut: &[u8]) -> Option<usize>
     requires { Both original.now cut.now }
     ensures { RecordsIs original.now cut.now result }
 {
     let mut at: usize = 3307;
-    let mut fixed: usize = 3307;
-    let mut mdr: usize = 3307;
+    let mut places = Places {
+        fixed: 3307,
+        mdr: 3307,
+    };
     while at < cut.len() {
         let size = size_at(cut, at);
-        match turn(original, fixed, mdr, cut, at, size) {
-            Turned::Unmatched => {
-                return Compared::Unlike(at);
-            }
-            Turned::Go { fixed: f, mdr: m } => {
-                fixed = f;
-                mdr = m;
-                at += size;
-            }
-        }
+        let Some(next) = turn(original, places, cut, at, size) else {
+            return Some(at);
+        };
+        places = next;
+        at += size;
     }
-    if next_fixed(original, fixed) < original.len() {
-        return Compared::Unlike(at);
+    if next_fixed(original, places.fixed) < original.len() {
+        return Some(at);
     }
-    Compared::Alike
+    None
 }

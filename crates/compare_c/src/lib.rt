@@ -2,22 +2,18 @@
 #![tactic(auto)]
 
 ghost use Rattle.std.specs.Prelude.{◌≡◌};
+ghost use Rattle.std.specs.declared.result.Result.TheVariants.{Ok};
 ghost use Rattle.compare_c.specs.Checking.{checked_said, CheckTold};
 
-use compare::cut::Checked;
-use told::put::refuse4;
+use told::put::told;
 
-fn put_checked(answer: &mut [u64; 4], checked: Checked)
-    ensures { answer.new ≡ checked_said checked }
+// The place where it is no cut.
+fn checked_numbers(place: Option<usize>) -> [u64; 4]
+    ensures { result ≡ checked_said (Ok place) }
 {
-    match checked {
-        Checked::Refused(r) => refuse4(answer, r),
-        Checked::Is => {
-            *answer = [0, 0, 1, 0];
-        }
-        Checked::Not(place) => {
-            *answer = [0, 0, 0, place as u64];
-        }
+    match place {
+        None => [0, 0, 1, 0],
+        Some(place) => [0, 0, 0, place as u64],
     }
 }
 
@@ -26,5 +22,5 @@ fn put_checked(answer: &mut [u64; 4], checked: Checked)
 pub extern "C" fn wl_check_cut(original: &[u8], cut: &[u8], answer: &mut [u64; 4])
     ensures { CheckTold original.now cut.now answer.new }
 {
-    put_checked(answer, compare::cut::check_cut(original, cut));
+    *answer = told(compare::cut::check_cut(original, cut), checked_numbers);
 }

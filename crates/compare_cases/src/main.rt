@@ -2,17 +2,17 @@
 // (tools/compare-cases says which and writes them).
 #![tactic(auto)]
 
+use calendar::Refusal;
 use cases::input::{read, read_part, word};
 use cases::print::{number, refusal, say};
-use compare::cut::Checked;
 use std::io;
 use std::io::{Read, Write};
 
-fn print_answer<W: Write>(out: &mut W, answer: Checked) -> io::Result<()> {
+fn print_answer<W: Write>(out: &mut W, answer: Result<Option<usize>, Refusal>) -> io::Result<()> {
     match answer {
-        Checked::Refused(r) => refusal(out, r)?,
-        Checked::Is => say(out, b" yes")?,
-        Checked::Not(place) => {
+        Err(r) => refusal(out, r)?,
+        Ok(None) => say(out, b" yes")?,
+        Ok(Some(place)) => {
             say(out, b" no")?;
             number(out, place as u64)?;
         }

@@ -27,14 +27,14 @@ use Rattle.mphr.specs.Table.{headed, timed, declared, total}
 use Rattle.mphr.specs.Table as M
 use Rattle.mphr.proofs.Export.{fine_framed, fine_valued, sized, summed}
 use Rattle.judge.specs.Table.{Site, first, class_at, kind_at, size_at, offset_at, aim_at, Sound, one_more, next, Leads, here, on, Target, Pointer, Wrong, part_left, unknown, misplaced, bad_size, bad_times, surplus, bad_target, points_inside, points_at_other, too_few, main, at, too_long, Clean}
-use Rattle.judge.specs.declared.arrival.Extent.{Extent}
-use Rattle.judge.specs.declared.arrival.Extent.TheVariants as X
+use Rattle.std.specs.declared.option.Option.TheVariants.{Some, None}
+use Rattle.std.specs.declared.result.Result.TheVariants.{Ok, Err}
+use Rattle.std.specs.declared.option.Option.{Option}
+use Rattle.std.specs.declared.result.Result.{Result}
 use Rattle.judge.specs.Extent.{ExtentIs, Complete, Covered}
 use Rattle.finish.specs.Rows.{rows_of}
 use Rattle.finish.specs.Finish.{starts, put, Refuses, Unfit, faulty, short, no_room, VerdictIs, FinishedIs}
 use Rattle.demands.specs.Product.{class, kind, size, target_kind, offset, MainHeader, IsRecord, Aims, Records, none, more, of_class, Meets}
-use Rattle.finish.specs.declared.Finished.{Finished}
-use Rattle.finish.specs.declared.Finished.TheVariants.{Accepted, Refused}
 use Rattle.judge.proofs.WayLaws.{leads_le, snoc, trans, linear, holds, target?}
 use Rattle.demands.proofs.Prefix.{unique_given}
 use Rattle.tables.proofs.Laws.{not_clean}
@@ -373,7 +373,7 @@ covers m v =
 
 -- 1. what is accepted is a product; the count is that of its records, with the main header; the list holds their rows and is kept elsewhere
 pub accepted_meets :
-    {a : List ℕ} {rows rows' : List (List ℕ)} {c : ℕ} → FinishedIs a rows (Accepted c) rows'
+    {a : List ℕ} {rows rows' : List (List ℕ)} {c : ℕ} → FinishedIs a rows (Ok c) rows'
     → (m : Meets a) × (c ≡ suc (length m.list)) × (rows' ≡ put 0 (rows_of a (0 ∷ m.list)) rows)
 unfolding complete_meets
 accepted_meets f =
@@ -382,12 +382,12 @@ accepted_meets f =
 
 -- 2. a product is accepted where the list has room, and nothing else may be said of it
 pub meets_accepted :
-    (a : List ℕ) (rows rows' : List (List ℕ)) (m : Meets a) → suc (length m.list) ≤ length rows → (r : Finished) → FinishedIs a rows r rows'
-    → (r ≡ Accepted (suc (length m.list))) × (rows' ≡ put 0 (rows_of a (0 ∷ m.list)) rows)
-meets_accepted a rows rows' m h (Accepted c) f =
+    (a : List ℕ) (rows rows' : List (List ℕ)) (m : Meets a) → suc (length m.list) ≤ length rows → (r : Result ℕ Refusal) → FinishedIs a rows r rows'
+    → (r ≡ Ok (suc (length m.list))) × (rows' ≡ put 0 (rows_of a (0 ∷ m.list)) rows)
+meets_accepted a rows rows' m h (Ok c) f =
     let v = covers m f.filled.covered in
-    (ap Accepted v.0, f.filled.index ∙ ap (λ (l : List ℕ). put 0 (rows_of a (0 ∷ l)) rows) v.1)
-meets_accepted a rows rows' m h (Refused r) (f, _) = absurd (go f)
+    (ap Ok v.0, f.filled.index ∙ ap (λ (l : List ℕ). put 0 (rows_of a (0 ∷ l)) rows) v.1)
+meets_accepted a rows rows' m h (Err r) (f, _) = absurd (go f)
   where
     go : {n p : ℕ} → Refuses a (length rows) n p → ⊥
     go (faulty g) = not_clean g (meets_complete m).clean
@@ -406,16 +406,16 @@ pub complete_is_product : {a : List ℕ} → Complete a → Meets a
 complete_is_product k = complete_meets k (complete_covered k).1
 
 -- 5. one thing at most is right to say, and to write
-pub unique_finished : (a : List ℕ) (rows : List (List ℕ)) (r s : Finished) (x y : List (List ℕ)) → FinishedIs a rows r x → FinishedIs a rows s y → (r ≡ s) × (x ≡ y)
-unique_finished a rows (Accepted c) s x y f g =
+pub unique_finished : (a : List ℕ) (rows : List (List ℕ)) (r s : Result ℕ Refusal) (x y : List (List ℕ)) → FinishedIs a rows r x → FinishedIs a rows s y → (r ≡ s) × (x ≡ y)
+unique_finished a rows (Ok c) s x y f g =
     let m = accepted_meets f in
     let k = meets_accepted a rows y m.0 (omega (arith, m.1, f.filled.fits)) s g in
-    (ap Accepted m.1 ∙ sym k.0, m.2 ∙ sym k.1)
-unique_finished a rows (Refused r) (Accepted c) x y f g =
+    (ap Ok m.1 ∙ sym k.0, m.2 ∙ sym k.1)
+unique_finished a rows (Err r) (Ok c) x y f g =
     let m = accepted_meets g in
-    let k = meets_accepted a rows x m.0 (omega (arith, m.1, g.filled.fits)) (Refused r) f in
-    (k.0 ∙ ap Accepted (sym m.1), k.1 ∙ sym m.2)
-unique_finished a rows (Refused r) (Refused s) x y (f, e) (g, d) = let u = go f g in (ap Refused (same_refusal r s u.0 u.1), e ∙ sym d)
+    let k = meets_accepted a rows x m.0 (omega (arith, m.1, g.filled.fits)) (Err r) f in
+    (k.0 ∙ ap Ok (sym m.1), k.1 ∙ sym m.2)
+unique_finished a rows (Err r) (Err s) x y (f, e) (g, d) = let u = go f g in (ap Err (same_refusal r s u.0 u.1), e ∙ sym d)
   where
     go : {n p n' p' : ℕ} → Refuses a (length rows) n p → Refuses a (length rows) n' p' → (n ≡ n') × (p ≡ p')
     go (faulty g) (faulty h) = unique_given g h
@@ -428,27 +428,27 @@ unique_finished a rows (Refused r) (Refused s) x y (f, e) (g, d) = let u = go f 
     go (no_room k v l) (short c s) = absurd (⊎_elim (λ z. omega (arith, k.header)) (λ z. omega (arith, k.come)) s)
     go (no_room k v l) (no_room k' v' l') = (refl, omega (arith, v.counted, v'.counted, (same_way v.way v'.way (v.ends ∙ sym v'.ends)).1))
 
-pub unique_extent : (a : List ℕ) (r s : Extent) → ExtentIs a r → ExtentIs a s → r ≡ s
-unique_extent a X.Part X.Part f g = refl
-unique_extent a X.Part (X.Entire c) f (k, v) = absurd (⊎_elim (λ z. omega (arith, k.header)) (λ z. omega (arith, k.come)) f.1)
-unique_extent a X.Part (X.Refused s) f g = absurd (not_clean g f.0)
-unique_extent a (X.Entire c) X.Part (k, v) g = absurd (⊎_elim (λ z. omega (arith, k.header)) (λ z. omega (arith, k.come)) g.1)
-unique_extent a (X.Entire c) (X.Entire d) (k, v) (l, w) = ap X.Entire (omega (arith, v.counted, w.counted, (same_way v.way w.way (v.ends ∙ sym w.ends)).1))
-unique_extent a (X.Entire c) (X.Refused s) (k, v) g = absurd (not_clean g k.clean)
-unique_extent a (X.Refused r) X.Part f g = absurd (not_clean f g.0)
-unique_extent a (X.Refused r) (X.Entire d) f (l, w) = absurd (not_clean f l.clean)
-unique_extent a (X.Refused r) (X.Refused s) f g = let u = unique_given f g in ap X.Refused (same_refusal r s u.0 u.1)
+pub unique_extent : (a : List ℕ) (r s : Result (Option ℕ) Refusal) → ExtentIs a r → ExtentIs a s → r ≡ s
+unique_extent a (Ok None) (Ok None) f g = refl
+unique_extent a (Ok None) (Ok (Some c)) f (k, v) = absurd (⊎_elim (λ z. omega (arith, k.header)) (λ z. omega (arith, k.come)) f.1)
+unique_extent a (Ok None) (Err s) f g = absurd (not_clean g f.0)
+unique_extent a (Ok (Some c)) (Ok None) (k, v) g = absurd (⊎_elim (λ z. omega (arith, k.header)) (λ z. omega (arith, k.come)) g.1)
+unique_extent a (Ok (Some c)) (Ok (Some d)) (k, v) (l, w) = ap (λ n. Ok (Some n)) (omega (arith, v.counted, w.counted, (same_way v.way w.way (v.ends ∙ sym w.ends)).1))
+unique_extent a (Ok (Some c)) (Err s) (k, v) g = absurd (not_clean g k.clean)
+unique_extent a (Err r) (Ok None) f g = absurd (not_clean f g.0)
+unique_extent a (Err r) (Ok (Some d)) f (l, w) = absurd (not_clean f l.clean)
+unique_extent a (Err r) (Err s) f g = let u = unique_given f g in ap Err (same_refusal r s u.0 u.1)
 
 -- ---- the verdict
 no_verdict : {a : List ℕ} {n p : ℕ} → Complete a → Unfit a n p → ⊥
 no_verdict k (faulty g) = not_clean g k.clean
 no_verdict k (short c s) = ⊎_elim (λ z. omega (arith, k.header)) (λ z. omega (arith, k.come)) s
 
-pub unique_verdict : (a : List ℕ) (r s : Finished) → VerdictIs a r → VerdictIs a s → r ≡ s
-unique_verdict a (Accepted c) (Accepted d) (k, v) (l, w) = ap Accepted (omega (arith, v.counted, w.counted, (same_way v.way w.way (v.ends ∙ sym w.ends)).1))
-unique_verdict a (Accepted c) (Refused s) (k, v) g = absurd (no_verdict k g)
-unique_verdict a (Refused r) (Accepted d) f (l, w) = absurd (no_verdict l f)
-unique_verdict a (Refused r) (Refused s) f g = let u = go f g in ap Refused (same_refusal r s u.0 u.1)
+pub unique_verdict : (a : List ℕ) (r s : Result ℕ Refusal) → VerdictIs a r → VerdictIs a s → r ≡ s
+unique_verdict a (Ok c) (Ok d) (k, v) (l, w) = ap Ok (omega (arith, v.counted, w.counted, (same_way v.way w.way (v.ends ∙ sym w.ends)).1))
+unique_verdict a (Ok c) (Err s) (k, v) g = absurd (no_verdict k g)
+unique_verdict a (Err r) (Ok d) f (l, w) = absurd (no_verdict l f)
+unique_verdict a (Err r) (Err s) f g = let u = go f g in ap Err (same_refusal r s u.0 u.1)
   where
     go : {n p n' p' : ℕ} → Unfit a n p → Unfit a n' p' → (n ≡ n') × (p ≡ p')
     go (faulty g) (faulty h) = unique_given g h
@@ -457,17 +457,17 @@ unique_verdict a (Refused r) (Refused s) f g = let u = go f g in ap Refused (sam
     go (short c s) (short c' s') = (refl, refl)
 
 -- a product is not refused, and a refusal is one
-pub meets_fit : {a : List ℕ} → Meets a → (r : Refusal) → VerdictIs a (Refused r) → ⊥
+pub meets_fit : {a : List ℕ} → Meets a → (r : Refusal) → VerdictIs a (Err r) → ⊥
 meets_fit t r g = no_verdict (meets_complete t) g
 
-pub one_refused : {a : List ℕ} (r s : Refusal) → VerdictIs a (Refused r) → VerdictIs a (Refused s) → r ≡ s
-one_refused {a} r s g h = go (unique_verdict a (Refused r) (Refused s) g h)
+pub one_refused : {a : List ℕ} (r s : Refusal) → VerdictIs a (Err r) → VerdictIs a (Err s) → r ≡ s
+one_refused {a} r s g h = go (unique_verdict a (Err r) (Err s) g h)
   where
-    go : Refused r ≡ Refused s → r ≡ s
+    go : ◌≡◌ {A = Result ℕ Refusal} (Err r) (Err s) → r ≡ s
     go e = cc
 
-pub accepted_product : {a : List ℕ} {c : ℕ} → VerdictIs a (Accepted c) → Meets a
+pub accepted_product : {a : List ℕ} {c : ℕ} → VerdictIs a (Ok c) → Meets a
 accepted_product g = complete_is_product g.0
 
-pub verdict_at : (a : List ℕ) {x y : Finished} → x ≡ y → VerdictIs a x → VerdictIs a y
+pub verdict_at : (a : List ℕ) {x y : Result ℕ Refusal} → x ≡ y → VerdictIs a x → VerdictIs a y
 verdict_at a e g = rw e at g

@@ -16,7 +16,7 @@ use Rattle.judge.specs.declared.arrival.Arrival.{Arrival}
 use Rattle.judge.specs.declared.arrival.Arrival.TheVariants.{Waiting, Refused}
 use Rattle.finish.specs.Rows.{start_of}
 use Rattle.finish.specs.Finish.{Refuses, Unfit, faulty, short, no_room, VerdictIs, FinishedIs}
-use Rattle.finish.specs.declared.Finished.TheVariants as F
+use Rattle.std.specs.declared.result.Result.TheVariants.{Ok}
 use Rattle.judge.proofs.WayLaws.{numbers}
 use Rattle.judge.proofs.Local.{lawful}
 use Rattle.judge.proofs.Covering.{whole_come}
@@ -72,11 +72,11 @@ comes X law Says clean one a r g = record {
     at-prefix : {d : List ℕ} → d ≡ a → T.Gives X d (fault r.number r.place g.shown)
     at-prefix e = rw e g.gives
 
-accepted_verdict : (a t : List ℕ) (c e n : ℕ) → Judged a (Waiting c e) → VerdictIs (a ++ t) (F.Accepted n) → Grows a c e (a ++ t) n (length (a ++ t))
+accepted_verdict : (a t : List ℕ) (c e n : ℕ) → Judged a (Waiting c e) → VerdictIs (a ++ t) (Ok n) → Grows a c e (a ++ t) n (length (a ++ t))
 accepted_verdict a t c e n o (k, v) = rw (v.ends ∙ sym (whole_come k)) at (grows o t (ends_whole k v))
 
 accepted :
-    (a t : List ℕ) (rows rows' : List (List ℕ)) (c e n : ℕ) → Judged a (Waiting c e) → FinishedIs (a ++ t) rows (F.Accepted n) rows'
+    (a t : List ℕ) (rows rows' : List (List ℕ)) (c e n : ℕ) → Judged a (Waiting c e) → FinishedIs (a ++ t) rows (Ok n) rows'
     → Grows a c e (a ++ t) n (length (a ++ t)) × ((k : ℕ) → k < n → start_of (get_or rows' k []) ≡ start (a ++ t) k)
 accepted a t rows rows' c e n o f = (accepted_verdict a t c e n o (f.complete, f.filled.covered), indexed f.complete f.filled)
 

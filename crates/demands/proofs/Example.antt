@@ -31,8 +31,9 @@ use Rattle.mphr.specs.Layout.{fields, widths, kinds, rows, names, width_of, kind
 use Rattle.mphr.specs.Table.{headed, timed, named, framed, valued, declared, total, sum}
 use Rattle.finish.specs.Rows.{rows_of}
 use Rattle.finish.specs.Finish.{put, FinishedIs}
-use Rattle.finish.specs.declared.Finished.{Finished}
-use Rattle.finish.specs.declared.Finished.TheVariants.{Accepted}
+use Rattle.std.specs.declared.result.Result.TheVariants.{Ok}
+use Rattle.std.specs.declared.result.Result.{Result}
+use Rattle.calendar.specs.declared.Refusal.{Refusal}
 use Rattle.demands.proofs.Accepted.{meets_accepted}
 use Rattle.demands.specs.Product.{MainHeader, class, group, kind, size, target_class, target_kind, offset, IsRecord, Aims, Records, none, more, of_class, Meets}
 
@@ -322,7 +323,7 @@ richer_rows = refl
 
 -- so whatever is right to say of the paper's, finished, with room for two, is that it is accepted with two records, at 0 and 3307
 pub example_accepted :
-    (rows rows' : List (List ℕ)) → 2 ≤ length rows → (r : Finished) → FinishedIs example rows r rows'
-    → (r ≡ Accepted 2) × (rows' ≡ put 0 (rows_of example (0 ∷ 3307 ∷ [])) rows)
+    (rows rows' : List (List ℕ)) → 2 ≤ length rows → (r : Result ℕ Refusal) → FinishedIs example rows r rows'
+    → (r ≡ Ok 2) × (rows' ≡ put 0 (rows_of example (0 ∷ 3307 ∷ [])) rows)
 unfolding example_meets product_meets
 example_accepted rows rows' h r f = meets_accepted example rows rows' example_meets h r f

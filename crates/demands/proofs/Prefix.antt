@@ -13,8 +13,9 @@ use Rattle.judge.specs.Table.{table, Given, Judged}
 use Rattle.finish.specs.Finish.{Refuses, faulty, short, no_room, FinishedIs, refused_with}
 use Rattle.judge.specs.declared.arrival.Arrival.{Arrival}
 use Rattle.judge.specs.declared.arrival.Arrival.TheVariants.{Waiting, Refused}
-use Rattle.finish.specs.declared.Finished.{Finished}
-use Rattle.finish.specs.declared.Finished.TheVariants as F
+use Rattle.std.specs.declared.result.Result.TheVariants.{Ok, Err}
+use Rattle.std.specs.declared.result.Result.{Result}
+use Rattle.calendar.specs.declared.Refusal.{Refusal}
 use Rattle.judge.proofs.Local.{lawful, unique_open}
 
 -- what holds of every table, of this one
@@ -36,9 +37,9 @@ module _ (a t : List ℕ) {n p : ℕ} (g : Given a n p) where
   pub refusal_kept : (r : Arrival) → Judged (a ++ t) r → r ≡ Refused (refusing n p)
   refusal_kept r j = unique_arrival (a ++ t) r (Refused (refusing n p)) j (stays_refused a t g)
 
-  pub refusal_final : (rows : List (List ℕ)) (r : Finished) (rows' : List (List ℕ)) → FinishedIs (a ++ t) rows r rows' → (r ≡ refused_with n p) × (rows' ≡ rows)
-  refusal_final rows (F.Accepted c) rows' f = absurd (not_clean (stays_refused a t g) f.complete.clean)
-  refusal_final rows (F.Refused r) rows' (f, e) = let u = go f in (ap F.Refused (same_refusal r (refusing n p) u.0 u.1), e)
+  pub refusal_final : (rows : List (List ℕ)) (r : Result ℕ Refusal) (rows' : List (List ℕ)) → FinishedIs (a ++ t) rows r rows' → (r ≡ refused_with n p) × (rows' ≡ rows)
+  refusal_final rows (Ok c) rows' f = absurd (not_clean (stays_refused a t g) f.complete.clean)
+  refusal_final rows (Err r) rows' (f, e) = let u = go f in (ap Err (same_refusal r (refusing n p) u.0 u.1), e)
     where
       go : {n' p' : ℕ} → Refuses (a ++ t) (length rows) n' p' → (n' ≡ n) × (p' ≡ p)
       go (faulty h) = unique_given h (stays_refused a t g)

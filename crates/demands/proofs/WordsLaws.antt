@@ -14,9 +14,11 @@ use Rattle.calendar.specs.Said.{answer}
 use Rattle.meter.specs.Integer.{be_at}
 use Rattle.meter.specs.General.{lead}
 use Rattle.meter.specs.Time.{last_milli, is_time, time_at, compared}
+use Rattle.std.specs.declared.option.Option.TheVariants.{Some, None}
+use Rattle.std.specs.declared.cmp.Ordering.TheVariants.{Less, Equal, Greater}
+use Rattle.std.specs.declared.option.Option.{Option}
 use Rattle.meter.specs.declared.time.Time.{Time}
-use Rattle.meter.specs.declared.time.Time.TheVariants as T
-use Rattle.meter.specs.declared.time.Order.TheVariants as O
+use Rattle.meter.specs.Instant as T
 use Rattle.meter.proofs.GeneralRuns.{lead_is, lead_below}
 use Rattle.record.specs.Header.{is_class, is_group}
 use Rattle.record.specs.Times.{is_after, timed_at}
@@ -62,16 +64,16 @@ unfolding valued
 words_value a k v = means_value (kind_of k) a (line_start k + 32) (width_of k) v
 
 -- ---- times
-right_words : (t : Time) → is_time t ≡ true → RightTime t
-right_words T.Undefined e = tt
-right_words (T.At d m) e = leb-true m (last_milli d) e
+right_words : (t : Option Time) → is_time t ≡ true → RightTime t
+right_words None e = tt
+right_words (Some t) e = leb-true t.milli (last_milli t.day) e
 
-words_right : (t : Time) → RightTime t → is_time t ≡ true
-words_right T.Undefined r = refl
-words_right (T.At d m) r = le-leb m (last_milli d) r
+words_right : (t : Option Time) → RightTime t → is_time t ≡ true
+words_right None r = refl
+words_right (Some t) r = le-leb t.milli (last_milli t.day) r
 
 abbrev outcome : Bool → Bool → Bool → Bool → Bool
-outcome x y z w = not (is_after (answer (cond x O.Before (cond y O.After (cond z O.Before (cond w O.After O.Same))))))
+outcome x y z w = not (is_after (answer (cond x Less (cond y Greater (cond z Less (cond w Greater Equal))))))
 
 module _ (d m e n : ℕ) where
   by_tests : (x y z w : Bool) → ltb d e ≡ x → ltb e d ≡ y → ltb m n ≡ z → ltb n m ≡ w → outcome x y z w ≡ true → (d < e) ⊎ ((d ≡ e) × (m ≤ n))
@@ -89,15 +91,15 @@ module _ (d m e n : ℕ) where
       go (yes h) = rw (le-ltb d e (omega arith), le-ltb e d (omega arith), lt-ltb m n h)
       go (no h) = rw (le-ltb d e (omega arith), le-ltb e d (omega arith), le-ltb m n (omega (arith, h)), le-ltb n m l)
 
-order_words : (t u : Time) → is_time t ≡ true → is_time u ≡ true → not (is_after (compared t u)) ≡ true → NotAfter t u
-order_words T.Undefined u p q o = tt
-order_words (T.At d m) T.Undefined p q o = tt
-order_words (T.At d m) (T.At e n) p q o = by_tests d m e n (ltb d e) (ltb e d) (ltb m n) (ltb n m) refl refl refl refl (rw (p, q) at o)
+order_words : (t u : Option Time) → is_time t ≡ true → is_time u ≡ true → not (is_after (compared t u)) ≡ true → NotAfter t u
+order_words None u p q o = tt
+order_words (Some t) None p q o = tt
+order_words (Some t) (Some u) p q o = by_tests t.day t.milli u.day u.milli (ltb t.day u.day) (ltb u.day t.day) (ltb t.milli u.milli) (ltb u.milli t.milli) refl refl refl refl (rw (p, q) at o)
 
-words_order : (t u : Time) → is_time t ≡ true → is_time u ≡ true → NotAfter t u → not (is_after (compared t u)) ≡ true
-words_order T.Undefined u p q w = refl
-words_order (T.At d m) T.Undefined p q w = refl
-words_order (T.At d m) (T.At e n) p q w = rw (p, q) (to_tests d m e n w)
+words_order : (t u : Option Time) → is_time t ≡ true → is_time u ≡ true → NotAfter t u → not (is_after (compared t u)) ≡ true
+words_order None u p q w = refl
+words_order (Some t) None p q w = refl
+words_order (Some t) (Some u) p q w = rw (p, q) (to_tests t.day t.milli u.day u.milli w)
 
 times_words : (a : List ℕ) (i : ℕ) → timed_at a i ≡ true → TimesIn a i
 unfolding timed_at

@@ -4,10 +4,10 @@ use Rattle.calendar.specs.Said.{answer}
 use Rattle.calendar.specs.Calendar.{date, date_of}
 use Rattle.calendar.specs.declared.Date.{Date}
 use Rattle.meter.specs.Time.{is_time}
-use Rattle.meter.specs.declared.time.Time.TheVariants as T
+use Rattle.std.specs.declared.option.Option.TheVariants.{Some}
+use Rattle.meter.specs.Numeral as S
+use Rattle.meter.specs.Instant as T
 use Rattle.meter.specs.Rounding.{rounded_of}
-use Rattle.meter.specs.declared.scaled.Scaled.TheVariants as S
-use Rattle.meter.specs.declared.scaled.Decimal.TheVariants as D
 use Rattle.record.specs.Follow.{may_follow}
 
 -- a day is a date; a millisecond of a day is in or out; an integer with a scale, rounded to some decimals, is a whole number; a class may follow
@@ -21,7 +21,7 @@ pub data Case : Type 0 where
 abbrev pub Holds : Case → Type 0
 Holds (day_is n d) = date_of n ≡ d
 Holds (milli_is n m in?) = is_time (T.At n m) ≡ in?
-Holds (rounds_to i s d m) = rounded_of (S.Number i s) d ≡ answer (D.Whole m)
+Holds (rounds_to i s d m) = rounded_of (S.Number i s) d ≡ answer (Some m)
 Holds (follows last next in?) = may_follow last next ≡ in?
 
 abbrev pub Each : List Case → Type 0

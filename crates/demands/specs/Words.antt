@@ -4,8 +4,10 @@
 use Rattle.std.specs.Prelude.{ℕ, ◌+◌, ◌*◌, ◌≤◌, ◌<◌, ◌≡◌, true, ◌⊎◌, List, get_or}
 use Rattle.meter.specs.Integer.{be_at}
 use Rattle.meter.specs.Time.{last_milli, time_at}
+use Rattle.std.specs.declared.option.Option.TheVariants.{Some, None}
+use Rattle.std.specs.declared.option.Option.{Option}
 use Rattle.meter.specs.declared.time.Time.{Time}
-use Rattle.meter.specs.declared.time.Time.TheVariants as T
+use Rattle.meter.specs.Instant as T
 use Rattle.record.specs.Follow.{may_follow}
 use Rattle.text.specs.Grammar.{ValueIn}
 use Rattle.mphr.specs.Layout.{names, width_of, kind_of, line_start}
@@ -20,15 +22,15 @@ pub record FrameIn (a : List ℕ) (k : ℕ) : Type 0 where
   pub feed : get_or a (line_start k + 32 + width_of k) 0 ≡ 10
 
 -- a time is undefined, or its millisecond is one of its day
-abbrev pub RightTime : Time → Type 0
-RightTime T.Undefined = Unit
-RightTime (T.At day ms) = ms ≤ last_milli day
+abbrev pub RightTime : Option Time → Type 0
+RightTime None = Unit
+RightTime (Some t) = t.milli ≤ last_milli t.day
 
 -- "both defined and start after stop" is not so
-abbrev pub NotAfter : Time → Time → Type 0
-NotAfter (T.At d m) (T.At e n) = (d < e) ⊎ ((d ≡ e) × (m ≤ n))
-NotAfter (T.At d m) T.Undefined = Unit
-NotAfter T.Undefined u = Unit
+abbrev pub NotAfter : Option Time → Option Time → Type 0
+NotAfter (Some t) (Some u) = (t.day < u.day) ⊎ ((t.day ≡ u.day) × (t.milli ≤ u.milli))
+NotAfter (Some t) None = Unit
+NotAfter None u = Unit
 
 -- the times of the header at byte i
 pub record TimesIn (a : List ℕ) (i : ℕ) : Type 0 where

@@ -8,14 +8,16 @@ use lib.ListN.{length, get_or, set, length-set}
 use Rattle.mphr.proofs.Export.{sized}
 use Rattle.judge.specs.Table.{Site, class_at, size_at, Leads, here, on}
 use Rattle.judge.specs.Extent.{Complete, Covered, ExtentIs}
-use Rattle.judge.specs.declared.arrival.Extent.{Extent}
-use Rattle.judge.specs.declared.arrival.Extent.TheVariants as X
+use Rattle.std.specs.declared.option.Option.TheVariants.{Some, None}
+use Rattle.std.specs.declared.result.Result.TheVariants.{Ok, Err}
+use Rattle.std.specs.declared.option.Option.{Option}
+use Rattle.std.specs.declared.result.Result.{Result}
+use Rattle.calendar.specs.declared.Refusal.{Refusal}
 use Rattle.judge.specs.Stretch.{over, further}
 use Rattle.judge.specs.Stretch as J
 use Rattle.judge.proofs.Covering.{complete_fine, whole_come}
 use Rattle.finish.specs.Finish.{starts, put, Refuses, Accepts, FinishedIs, RowsBy, RefusesBy, VerdictIs, judged_as, refused_with}
 use Rattle.finish.specs.Finish as F
-use Rattle.finish.specs.declared.Finished.{Finished}
 use Rattle.finish.specs.Ahead.{Record}
 use Rattle.finish.specs.Rows.{group_at, subclass_at, ordinal, row, rows_after, rows_of}
 use Rattle.finish.specs.Slots.{slot_of, slot_at}
@@ -147,14 +149,14 @@ filled k v h f =
       };
     }
 
-pub refused_with_lem : (a : List ℕ) (rows : List (List ℕ)) {n p : ℕ} {r : Finished} → r ≡ refused_with n p → Refuses a (length rows) n p → FinishedIs a rows r rows
+pub refused_with_lem : (a : List ℕ) (rows : List (List ℕ)) {n p : ℕ} {r : Result ℕ Refusal} → r ≡ refused_with n p → Refuses a (length rows) n p → FinishedIs a rows r rows
 refused_with_lem a rows e q = rw e (q, refl)
 
-pub refused_by : (p : List (List ℕ)) (a : List ℕ) (rows : List (List ℕ)) {n q : ℕ} {r : Finished} → r ≡ refused_with n q → RefusesBy p a (length rows) n q → RowsBy p a rows r rows
+pub refused_by : (p : List (List ℕ)) (a : List ℕ) (rows : List (List ℕ)) {n q : ℕ} {r : Result ℕ Refusal} → r ≡ refused_with n q → RefusesBy p a (length rows) n q → RowsBy p a rows r rows
 refused_by p a rows e q = rw e (q, refl)
 
 -- ---- the verdict, by the arrival judge's answer
-pub judged_is : (a : List ℕ) (x : Extent) (r : Finished) → r ≡ judged_as x (length a) → ExtentIs a x → VerdictIs a r
-judged_is a (X.Refused q) r e f = rw e (F.faulty f)
-judged_is a X.Part r e f = rw e (F.short f.0 f.1)
-judged_is a (X.Entire c) r e f = rw e f
+pub judged_is : (a : List ℕ) (x : Result (Option ℕ) Refusal) (r : Result ℕ Refusal) → r ≡ judged_as x (length a) → ExtentIs a x → VerdictIs a r
+judged_is a (Err q) r e f = rw e (F.faulty f)
+judged_is a (Ok None) r e f = rw e (F.short f.0 f.1)
+judged_is a (Ok (Some c)) r e f = rw e f

@@ -11,22 +11,22 @@ use Rattle.judge.specs.Table.{size_at}
 use Rattle.judge.specs.Profile.{is_allowed, Meeting, over, further}
 use Rattle.finish.specs.Ahead.{Record, Ahead, none, more}
 use Rattle.finish.specs.Profile.{first_against, Going, LeapIs, AgainstIs}
-use Rattle.finish.specs.declared.profile.Against.{Against}
-use Rattle.finish.specs.declared.profile.Against.TheVariants.{Nowhere, At}
+use Rattle.std.specs.declared.option.Option.TheVariants.{Some, None}
+use Rattle.std.specs.declared.result.Result.TheVariants.{Ok, Err}
+use Rattle.std.specs.declared.option.Option.{Option}
+use Rattle.std.specs.declared.result.Result.{Result}
 use Rattle.calendar.specs.declared.Refusal.{Refusal}
 use Rattle.judge.specs.Extent.{Complete, Covered}
 use Rattle.judge.proofs.ProfileLaws.{meeting_le}
 use Rattle.finish.specs.Finish.{starts, FinishedIs, VerdictIs, Refuses, Unfit, RefusesBy, against, RowsBy}
 use Rattle.finish.specs.Finish as F
-use Rattle.finish.specs.declared.Finished.{Finished}
-use Rattle.finish.specs.declared.Finished.TheVariants.{Accepted, Refused}
 use Rattle.finish.proofs.AheadLaws.{ahead_step, ahead_stop, all_ahead}
 
 -- one that passes, and one that does not
 passes_on : (p : List (List ℕ)) (a : List ℕ) (i : ℕ) (l : List ℕ) → is_allowed p a i ≡ true → first_against p a (i ∷ l) ≡ first_against p a l
 passes_on p a i l e = rw e refl
 
-named_here : (p : List (List ℕ)) (a : List ℕ) (i : ℕ) (l : List ℕ) → is_allowed p a i ≡ false → first_against p a (i ∷ l) ≡ At i
+named_here : (p : List (List ℕ)) (a : List ℕ) (i : ℕ) (l : List ℕ) → is_allowed p a i ≡ false → first_against p a (i ∷ l) ≡ Some i
 named_here p a i l e = rw e refl
 
 -- ---- the records that are left
@@ -42,7 +42,7 @@ module _ {p : List (List ℕ)} {a l : List ℕ} {i : ℕ} (k : Asking p a l i) w
   pub asked_record : i < length a → Record a i
   asked_record h = (ahead_step k.left.ahead h).here
 
-  pub asked_stop : i < length a → is_allowed p a i ≡ false → first_against p a l ≡ At i
+  pub asked_stop : i < length a → is_allowed p a i ≡ false → first_against p a l ≡ Some i
   asked_stop h e =
       let t = ahead_step k.left.ahead h in
       k.same ∙ ap (first_against p a) t.is ∙ named_here p a i t.rest e
@@ -52,7 +52,7 @@ module _ {p : List (List ℕ)} {a l : List ℕ} {i : ℕ} (k : Asking p a l i) w
       let t = ahead_step k.left.ahead h in
       record { left = record { starts = t.rest; ahead = t.on }; same = k.same ∙ ap (first_against p a) t.is ∙ passes_on p a i t.rest e }
 
-  pub asked_last : length a ≤ i → first_against p a l ≡ Nowhere
+  pub asked_last : length a ≤ i → first_against p a l ≡ None
   asked_last h = k.same ∙ ap (first_against p a) (ahead_stop k.left.ahead h)
 
 -- THOSE THAT MEET THE PROFILE are passed over: the first against it is one of those after them
@@ -74,27 +74,27 @@ leaps {p} {a} {l} {i} {j} {r} k m e =
 
 -- ---- BY A PROFILE: what is said where no record is against it is what the lister says
 pub by_rows :
-    (p : List (List ℕ)) (a : List ℕ) (rows : List (List ℕ)) (r : Finished) (rows' : List (List ℕ)) → Complete a → AgainstIs p a Nowhere → FinishedIs a rows r rows'
+    (p : List (List ℕ)) (a : List ℕ) (rows : List (List ℕ)) (r : Result ℕ Refusal) (rows' : List (List ℕ)) → Complete a → AgainstIs p a None → FinishedIs a rows r rows'
     → RowsBy p a rows r rows'
-by_rows p a rows (Accepted c) rows' k e f = record { accepts = f; allowed = sym (e _ (all_ahead k f.filled.covered)) }
-by_rows p a rows (Refused r) rows' k e (q, s) = (go q, s)
+by_rows p a rows (Ok c) rows' k e f = record { accepts = f; allowed = sym (e _ (all_ahead k f.filled.covered)) }
+by_rows p a rows (Err r) rows' k e (q, s) = (go q, s)
   where
     go : {n m : ℕ} → Refuses a (length rows) n m → RefusesBy p a (length rows) n m
     go (F.faulty g) = F.faulty g
     go (F.short c h) = F.short c h
     go (F.no_room o v h) = F.no_room o v (sym (e _ (all_ahead o v))) h
 
-pub by_place : (p : List (List ℕ)) {a : List ℕ} {c q : ℕ} (room : ℕ) → Complete a → (v : Covered a c) → AgainstIs p a (At q) → RefusesBy p a room 29 q
+pub by_place : (p : List (List ℕ)) {a : List ℕ} {c q : ℕ} (room : ℕ) → Complete a → (v : Covered a c) → AgainstIs p a (Some q) → RefusesBy p a room 29 q
 by_place p room k v e = against k v (sym (e _ (all_ahead k v)))
 
 pub product_going : {a : List ℕ} {c : ℕ} → Complete a → Covered a c → Going a 0
 product_going k v = record { starts = _; ahead = all_ahead k v }
 
-pub none_against : (a l : List ℕ) → first_against [] a l ≡ Nowhere
+pub none_against : (a l : List ℕ) → first_against [] a l ≡ None
 none_against a [] = refl
 none_against a (i ∷ l) = none_against a l
 
-pub empty_against : (p : List (List ℕ)) (a : List ℕ) → length p ≡ 0 → AgainstIs p a Nowhere
+pub empty_against : (p : List (List ℕ)) (a : List ℕ) → length p ≡ 0 → AgainstIs p a None
 empty_against [] a e l w = sym (none_against a l)
 empty_against (q ∷ p) a e l w = absurd (omega arith)
 
@@ -104,15 +104,15 @@ by_unfit p room (F.faulty g) = F.faulty g
 by_unfit p room (F.short c h) = F.short c h
 
 pub by_verdict :
-    (p : List (List ℕ)) (a : List ℕ) (rows : List (List ℕ)) (r : Finished) (q : Refusal) → r ≡ Refused q → VerdictIs a r → RowsBy p a rows r rows
+    (p : List (List ℕ)) (a : List ℕ) (rows : List (List ℕ)) (r : Result ℕ Refusal) (q : Refusal) → r ≡ Err q → VerdictIs a r → RowsBy p a rows r rows
 by_verdict p a rows r q e f = rw e (by_unfit p (length rows) (rw e at f), refl)
 
 -- ---- NO PROFILE: nothing is against it, so the lister by it is the lister
-pub by_none : (a : List ℕ) (rows : List (List ℕ)) (r : Finished) (rows' : List (List ℕ)) → RowsBy [] a rows r rows' → FinishedIs a rows r rows'
-by_none a rows (Accepted c) rows' f = f.accepts
-by_none a rows (Refused r) rows' (q, e) = (go q, e)
+pub by_none : (a : List ℕ) (rows : List (List ℕ)) (r : Result ℕ Refusal) (rows' : List (List ℕ)) → RowsBy [] a rows r rows' → FinishedIs a rows r rows'
+by_none a rows (Ok c) rows' f = f.accepts
+by_none a rows (Err r) rows' (q, e) = (go q, e)
   where
-    never : {x : Against} {j : ℕ} → x ≡ Nowhere → x ≡ At j → ⊥
+    never : {x : Option ℕ} {j : ℕ} → x ≡ None → x ≡ Some j → ⊥
     never e d = let z : ◌≡◌ {A = ℕ} 0 1 = cc in omega arith
 
     go : {n m : ℕ} → RefusesBy [] a (length rows) n m → Refuses a (length rows) n m

@@ -6,13 +6,12 @@ use Rattle.calendar.specs.declared.Refusal.{Refusal}
 use Rattle.calendar.specs.Said.{refusing}
 use Rattle.judge.specs.Table.{Site, Leads, here, on, Clean, Given}
 use Rattle.judge.specs.Extent.{Short, Complete, Covered}
-use Rattle.judge.specs.declared.arrival.Extent.{Extent}
-use Rattle.judge.specs.declared.arrival.Extent.TheVariants as X
+use Rattle.std.specs.declared.option.Option.TheVariants.{Some, None}
+use Rattle.std.specs.declared.result.Result.TheVariants.{Ok, Err}
+use Rattle.std.specs.declared.option.Option.{Option}
+use Rattle.std.specs.declared.result.Result.{Result}
 use Rattle.finish.specs.Rows.{rows_of}
 use Rattle.finish.specs.Profile.{first_against}
-use Rattle.finish.specs.declared.profile.Against.TheVariants.{Nowhere, At}
-use Rattle.finish.specs.declared.Finished.{Finished}
-use Rattle.finish.specs.declared.Finished.TheVariants.{Accepted, Refused}
 
 -- the starts of the records on the way from x to y
 abbrev pub starts : {a : List ℕ} {x y : Site} → Leads a x y → List ℕ
@@ -37,15 +36,15 @@ pub data Unfit (a : List ℕ) : ℕ → ℕ → Type 0 where
   faulty : {n p : ℕ} → Given a n p → Unfit a n p
   short : Clean a → Short a → Unfit a 17 (length a)
 
-abbrev pub VerdictIs : List ℕ → Finished → Type 0
-VerdictIs a (Accepted c) = Complete a × Covered a c
-VerdictIs a (Refused r) = Unfit a r.number r.place
+abbrev pub VerdictIs : List ℕ → Result ℕ Refusal → Type 0
+VerdictIs a (Ok c) = Complete a × Covered a c
+VerdictIs a (Err r) = Unfit a r.number r.place
 
 -- and by what the arrival judge says of a product of n bytes
-abbrev pub judged_as : Extent → ℕ → Finished
-judged_as (X.Refused r) n = Refused r
-judged_as X.Part n = Refused (refusing 17 n)
-judged_as (X.Entire c) n = Accepted c
+abbrev pub judged_as : Result (Option ℕ) Refusal → ℕ → Result ℕ Refusal
+judged_as (Err r) n = Err r
+judged_as (Ok None) n = Err (refusing 17 n)
+judged_as (Ok (Some c)) n = Ok c
 
 -- the list has become rows': the main header's row first, then the others'; what stood at the other places is kept
 pub record Filled (a : List ℕ) (rows : List (List ℕ)) (c : ℕ) (rows' : List (List ℕ)) : Type 0 where
@@ -58,32 +57,32 @@ pub record Accepts (a : List ℕ) (rows : List (List ℕ)) (c : ℕ) (rows' : Li
   pub filled : Filled a rows c rows'
 
 -- what is right to say of a finished product; a refusal keeps all of the list
-abbrev pub FinishedIs : List ℕ → List (List ℕ) → Finished → List (List ℕ) → Type 0
-FinishedIs a rows (Accepted c) rows' = Accepts a rows c rows'
-FinishedIs a rows (Refused r) rows' = Refuses a (length rows) r.number r.place × (rows' ≡ rows)
+abbrev pub FinishedIs : List ℕ → List (List ℕ) → Result ℕ Refusal → List (List ℕ) → Type 0
+FinishedIs a rows (Ok c) rows' = Accepts a rows c rows'
+FinishedIs a rows (Err r) rows' = Refuses a (length rows) r.number r.place × (rows' ≡ rows)
 
 -- THE TWO IN TURN (02, Fourteen: "The two in turn answer what the one did, 18 included"): the verdict's refusal is handed on; where it accepts with c, 18
 -- where the room is less, or the rows
-pub data InTurn (a : List ℕ) (rows : List (List ℕ)) : Finished → Finished → List (List ℕ) → Type 0 where
-  unfit : (r : Refusal) → InTurn a rows (Refused r) (Refused r) rows
-  little : {c : ℕ} (r : Refusal) → r.number ≡ 18 → r.place ≡ c → length rows < c → InTurn a rows (Accepted c) (Refused r) rows
-  listed : {c : ℕ} {rows' : List (List ℕ)} → Filled a rows c rows' → InTurn a rows (Accepted c) (Accepted c) rows'
+pub data InTurn (a : List ℕ) (rows : List (List ℕ)) : Result ℕ Refusal → Result ℕ Refusal → List (List ℕ) → Type 0 where
+  unfit : (r : Refusal) → InTurn a rows (Err r) (Err r) rows
+  little : {c : ℕ} (r : Refusal) → r.number ≡ 18 → r.place ≡ c → length rows < c → InTurn a rows (Ok c) (Err r) rows
+  listed : {c : ℕ} {rows' : List (List ℕ)} → Filled a rows c rows' → InTurn a rows (Ok c) (Ok c) rows'
 
-abbrev pub refused_with : ℕ → ℕ → Finished
-refused_with n p = Refused (refusing n p)
+abbrev pub refused_with : ℕ → ℕ → Result ℕ Refusal
+refused_with n p = Err (refusing n p)
 
 -- ---- BY A PROFILE (02, Nine: "A profile judge takes the finished judge's verdict first and then those tables"; "29, record against the profile, place
 -- the first such record, after 17 and before 18")
 pub data RefusesBy (p : List (List ℕ)) (a : List ℕ) (room : ℕ) : ℕ → ℕ → Type 0 where
   faulty : {n q : ℕ} → Given a n q → RefusesBy p a room n q
   short : Clean a → Short a → RefusesBy p a room 17 (length a)
-  against : {c q : ℕ} → Complete a → (v : Covered a c) → first_against p a (0 ∷ starts v.way) ≡ At q → RefusesBy p a room 29 q
-  no_room : {c : ℕ} → Complete a → (v : Covered a c) → first_against p a (0 ∷ starts v.way) ≡ Nowhere → room < c → RefusesBy p a room 18 c
+  against : {c q : ℕ} → Complete a → (v : Covered a c) → first_against p a (0 ∷ starts v.way) ≡ Some q → RefusesBy p a room 29 q
+  no_room : {c : ℕ} → Complete a → (v : Covered a c) → first_against p a (0 ∷ starts v.way) ≡ None → room < c → RefusesBy p a room 18 c
 
 pub record AcceptsBy (p : List (List ℕ)) (a : List ℕ) (rows : List (List ℕ)) (c : ℕ) (rows' : List (List ℕ)) : Type 0 where
   pub accepts : Accepts a rows c rows'
-  pub allowed : first_against p a (0 ∷ starts accepts.filled.covered.way) ≡ Nowhere
+  pub allowed : first_against p a (0 ∷ starts accepts.filled.covered.way) ≡ None
 
-abbrev pub RowsBy : List (List ℕ) → List ℕ → List (List ℕ) → Finished → List (List ℕ) → Type 0
-RowsBy p a rows (Accepted c) rows' = AcceptsBy p a rows c rows'
-RowsBy p a rows (Refused r) rows' = RefusesBy p a (length rows) r.number r.place × (rows' ≡ rows)
+abbrev pub RowsBy : List (List ℕ) → List ℕ → List (List ℕ) → Result ℕ Refusal → List (List ℕ) → Type 0
+RowsBy p a rows (Ok c) rows' = AcceptsBy p a rows c rows'
+RowsBy p a rows (Err r) rows' = RefusesBy p a (length rows) r.number r.place × (rows' ≡ rows)

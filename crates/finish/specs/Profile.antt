@@ -2,13 +2,13 @@
 use Rattle.std.specs.Prelude.{ℕ, ◌≡◌, cond, List, [], ◌∷◌}
 use Rattle.judge.specs.Profile.{is_allowed}
 use Rattle.finish.specs.Ahead.{Ahead}
-use Rattle.finish.specs.declared.profile.Against.{Against}
-use Rattle.finish.specs.declared.profile.Against.TheVariants.{Nowhere, At}
+use Rattle.std.specs.declared.option.Option.TheVariants.{Some, None}
+use Rattle.std.specs.declared.option.Option.{Option}
 
 -- of the records that start at the bytes l
-abbrev pub first_against : List (List ℕ) → List ℕ → List ℕ → Against
-first_against p a [] = Nowhere
-first_against p a (i ∷ l) = cond (is_allowed p a i) (first_against p a l) (At i)
+abbrev pub first_against : List (List ℕ) → List ℕ → List ℕ → Option ℕ
+first_against p a [] = None
+first_against p a (i ∷ l) = cond (is_allowed p a i) (first_against p a l) (Some i)
 
 -- records go from byte i to the end
 pub record Going (a : List ℕ) (i : ℕ) : Type 0 where
@@ -20,5 +20,5 @@ pub record LeapIs (next met r : ℕ) : Type 0 where
   pub first : next ≡ 3307 → r ≡ met
   pub other : (next ≡ 3307 → ⊥) → r ≡ next
 
-abbrev pub AgainstIs : List (List ℕ) → List ℕ → Against → Type 0
+abbrev pub AgainstIs : List (List ℕ) → List ℕ → Option ℕ → Type 0
 AgainstIs p a r = (l : List ℕ) → Ahead a 0 l → r ≡ first_against p a l

@@ -4,7 +4,6 @@ ghost use Rattle.judge.specs.Stretch.{StretchIs};
 ghost use Rattle.finish.specs.Fill.{Onward, Unread, Read, Stretched, Empty, Fills};
 
 use crate::row::put_row;
-use judge::parts::lesser;
 use judge::stretch::Stretch as Even;
 use record::header::size_at;
 
@@ -91,7 +90,7 @@ fn fill_some(
     requires { Onward s.now rows.old counts.old k at × StretchIs s.now even }
     ensures { Stretched s.now rows.old counts.old k at result rows.new counts.new }
 {
-    let end = lesser(even.end, s.len());
+    let end = even.end.min(s.len());
     if at == even.from {
         if at < end {
             return fill_even(s, rows, counts, k, at, even.size, end);

@@ -12,77 +12,63 @@ ghost use Rattle.judge.specs.Stretch.{StretchIs};
 ghost use Rattle.finish.specs.Finish.{judged_as, VerdictIs, FinishedIs, RowsBy, refused_with};
 
 use crate::fill::fill;
-use crate::profile::{Against, first_against};
+use crate::profile::first_against;
 pub use calendar::Refusal;
-use judge::arrival::{Extent, judge_extent, survey};
+use calendar::fault;
+use judge::arrival::{judge_extent, survey};
 use judge::profile::NO_PROFILE;
 use judge::stretch::Stretch as Even;
 
-#[derive(Clone, Copy)]
-pub enum Finished {
-    Accepted { count: usize },
-    Refused(Refusal),
-}
-
-fn refused(number: u8, place: usize) -> Finished
-    ensures { result ≡ refused_with number place }
-{
-    Finished::Refused(Refusal { number, place })
-}
-
 // What the arrival judge's answer comes to, of a finished product of `len` bytes.
-fn judged(extent: Extent, len: usize) -> Finished
+fn judged(extent: Result<Option<usize>, Refusal>, len: usize) -> Result<usize, Refusal>
     ensures { result ≡ judged_as extent len }
 {
-    match extent {
-        Extent::Refused(r) => Finished::Refused(r),
-        Extent::Part => refused(17, len),
-        Extent::Entire { count } => Finished::Accepted { count },
-    }
+    extent?.ok_or(Refusal {
+        number: fault::UNFINISHED,
+        place: len,
+    })
 }
 
 // The verdict of a finished product: its refusal, 1 to 17, or accepted with the count of its records.
-pub fn verdict(s: &[u8]) -> Finished
+pub fn verdict(s: &[u8]) -> Result<usize, Refusal>
     ensures { VerdictIs s.now result }
 {
     judged(judge_extent(s), s.len())
 }
 
 // The rows of a product that is complete, where the room is enough.
-fn put_rows(s: &[u8], rows: &mut [[u32; 7]], count: usize, even: Even) -> Finished
+fn put_rows(s: &[u8], rows: &mut [[u32; 7]], count: usize, even: Even) -> Result<usize, Refusal>
     requires { Complete s.now × Covered s.now count × StretchIs s.now even }
     ensures { FinishedIs s.now rows.old result rows.new }
 {
     if rows.len() < count {
-        return refused(18, count);
+        return Err(Refusal {
+            number: fault::ROOM,
+            place: count,
+        });
     }
     let mut counts = [0u32; 32768];
-    Finished::Accepted {
-        count: fill(s, rows, &mut counts, even),
-    }
+    Ok(fill(s, rows, &mut counts, even))
 }
 
 // The row lister: it judges for itself, and the rows of an accepted product's records go into the list. By a profile: 29 at the first
 // record that is against it, before 18.
-pub fn rows_by(s: &[u8], profile: &[[u8; 6]], rows: &mut [[u32; 7]]) -> Finished
+pub fn rows_by(s: &[u8], profile: &[[u8; 6]], rows: &mut [[u32; 7]]) -> Result<usize, Refusal>
     ensures { RowsBy profile.now s.now rows.old result rows.new }
 {
     let surveyed = survey(s, profile);
-    let even = surveyed.stretch;
-    let met = surveyed.met;
-    let extent = surveyed.extent;
-    let said = judged(extent, s.len());
-    let Finished::Accepted { count } = said else {
-        return said;
-    };
-    match first_against(s, profile, met) {
-        Against::At(place) => refused(29, place),
-        Against::Nowhere => put_rows(s, rows, count, even),
+    let count = judged(surveyed.extent, s.len())?;
+    if let Some(place) = first_against(s, profile, surveyed.met) {
+        return Err(Refusal {
+            number: fault::PROFILE,
+            place,
+        });
     }
+    put_rows(s, rows, count, surveyed.stretch)
 }
 
 // The row lister, by no profile.
-pub fn rows(s: &[u8], rows: &mut [[u32; 7]]) -> Finished
+pub fn rows(s: &[u8], rows: &mut [[u32; 7]]) -> Result<usize, Refusal>
     ensures { FinishedIs s.now rows.old result rows.new }
 {
     let none: usize = 0;

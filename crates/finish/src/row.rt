@@ -8,23 +8,11 @@ ghost use Rattle.finish.specs.Slots.{column_of, SlotIs};
 ghost use Rattle.finish.specs.Ahead.{Record};
 ghost use Rattle.finish.specs.Fill.{PutRow, PutsRow};
 
-fn wide(x: u8) -> usize
-    ensures { result ≡ x }
-{
-    x as usize
-}
-
-fn number(x: u8) -> u32
-    ensures { result ≡ x }
-{
-    x as u32
-}
-
 // The column of a group. A processor picks one of two values without a guess, so that no header is waited for.
 fn column(group: u8) -> usize
     ensures { result ≡ column_of group }
 {
-    if group == 99 { 14 } else { wide(group) }
+    if group == 99 { 14 } else { group as usize }
 }
 
 // The slot of a class, a group and a subclass among the counters.
@@ -32,7 +20,7 @@ fn slot(class: u8, group: u8, subclass: u8) -> usize
     requires { (1 ≤ class) × (class ≤ 8) × (is_group group ≡ true) }
     ensures { SlotIs class group subclass result }
 {
-    ((wide(class) - 1) * 16 + column(group)) * 256 + wide(subclass)
+    ((class as usize - 1) * 16 + column(group)) * 256 + subclass as usize
 }
 
 // The row of the record at `at`.
@@ -43,10 +31,10 @@ fn row_at(s: &[u8], at: usize, size: usize, ordinal: u32) -> [u32; 7]
     [
         at as u32,
         size as u32,
-        number(s[at]),
-        number(s[at + 1]),
-        number(s[at + 2]),
-        number(s[at + 3]),
+        s[at] as u32,
+        s[at + 1] as u32,
+        s[at + 2] as u32,
+        s[at + 3] as u32,
         ordinal,
     ]
 }

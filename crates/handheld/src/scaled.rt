@@ -1,34 +1,20 @@
 // Scaled numbers: read, written, rounded, and as a meter shows them.
 ghost use Rattle.std.specs.Prelude.{◌≡◌};
 ghost use Rattle.told.specs.Given.{is_set, scaled_given};
-ghost use Rattle.handheld.specs.Scaled.{scaled6, scaled_said, ScaledTold, WriteScaledTold, decimal4, rounded_said, RoundedTold};
-ghost use Rattle.handheld.specs.Scaled.{reading4, reading_left, reading_said, shown_left, ReadingTold};
+ghost use Rattle.handheld.specs.Scaled.{scaled6, ScaledTold, WriteScaledTold, decimal4, RoundedTold};
+ghost use Rattle.handheld.specs.Scaled.{reading4, ReadingTold};
 
 use meter::integer::bits_of;
-use meter::scaled::{Decimal, Reading, Rounded, Scaled, ScaledRead, Shown};
+use meter::scaled::{Reading, Scaled};
 use told::given::is_set;
-use told::put::{put_one, put_written, put4, put6, refuse4, refuse6};
+use told::put::{one, told, written};
 
-fn put_scaled(answer: &mut [u64; 6], x: Scaled)
-    ensures { answer.new ≡ scaled6 x }
+fn scaled_numbers(x: Option<Scaled>) -> [u64; 6]
+    ensures { result ≡ scaled6 x }
 {
     match x {
-        Scaled::Undefined => put6(answer, 0, 0, 0),
-        Scaled::Number { integer, scale } => put6(
-            answer,
-            1,
-            bits_of(integer),
-            bits_of(scale as i64),
-        ),
-    }
-}
-
-fn put_scaled_read(answer: &mut [u64; 6], found: ScaledRead)
-    ensures { answer.new ≡ scaled_said found }
-{
-    match found {
-        ScaledRead::Scaled(x) => put_scaled(answer, x),
-        ScaledRead::Refused(r) => refuse6(answer, r),
+        None => [0; 6],
+        Some(n) => [0, 0, 1, bits_of(n.integer), bits_of(i64::from(n.scale)), 0],
     }
 }
 
@@ -43,9 +29,9 @@ pub extern "C" fn wl_read_scaled(
 )
     ensures { ScaledTold bytes.now at width signed answer.new }
 {
-    put_scaled_read(
-        answer,
+    *answer = told(
         meter::scaled::read_scaled(bytes, at, width, is_set(signed)),
+        scaled_numbers,
     );
 }
 
@@ -64,27 +50,15 @@ pub extern "C" fn wl_write_scaled(
         (scaled_given (is_set defined) integer scale) room.new answer.new }
 {
     let x = told::given::scaled(defined, integer, scale);
-    put_written(
-        answer,
-        meter::scaled::write_scaled(room, width, is_set(signed), x),
-    );
+    *answer = written(meter::scaled::write_scaled(room, width, is_set(signed), x));
 }
 
-fn put_decimal(answer: &mut [u64; 4], x: Decimal)
-    ensures { answer.new ≡ decimal4 x }
+fn decimal_numbers(x: Option<i64>) -> [u64; 4]
+    ensures { result ≡ decimal4 x }
 {
     match x {
-        Decimal::Undefined => put4(answer, 0, 0, 0, 0),
-        Decimal::Whole(z) => put4(answer, 0, 0, 1, bits_of(z)),
-    }
-}
-
-fn put_rounded(answer: &mut [u64; 4], found: Rounded)
-    ensures { answer.new ≡ rounded_said found }
-{
-    match found {
-        Rounded::Decimal(x) => put_decimal(answer, x),
-        Rounded::Refused(r) => refuse4(answer, r),
+        None => [0; 4],
+        Some(z) => [0, 0, 1, bits_of(z)],
     }
 }
 
@@ -100,37 +74,16 @@ pub extern "C" fn wl_round(
     ensures { RoundedTold (scaled_given (is_set defined) integer scale) decimals answer.new }
 {
     let x = told::given::scaled(defined, integer, scale);
-    put_rounded(answer, meter::scaled::round_to(x, decimals));
+    *answer = told(meter::scaled::round_to(x, decimals), decimal_numbers);
 }
 
-fn put_value(value: &mut f64, x: f64)
-    ensures { value.new ≡ x }
-{
-    *value = x;
-}
-
-fn put_reading(answer: &mut [u64; 4], value: &mut f64, x: Reading)
-    ensures { (answer.new ≡ reading4 x) × (value.new ≡ reading_left value.old x) }
+fn reading_numbers(x: Reading) -> [u64; 4]
+    ensures { result ≡ reading4 x }
 {
     match x {
-        Reading::Missing => put_one(answer, 0),
-        Reading::Whole(v) => {
-            put_value(value, v);
-            put_one(answer, 1);
-        }
-        Reading::Between(v) => {
-            put_value(value, v);
-            put_one(answer, 2);
-        }
-    }
-}
-
-fn put_shown(answer: &mut [u64; 4], value: &mut f64, found: Shown)
-    ensures { (answer.new ≡ reading_said found) × (value.new ≡ shown_left value.old found) }
-{
-    match found {
-        Shown::Reading(x) => put_reading(answer, value, x),
-        Shown::Refused(r) => refuse4(answer, r),
+        Reading::Missing => one(0),
+        Reading::Whole(_) => one(1),
+        Reading::Between(_) => one(2),
     }
 }
 
@@ -148,5 +101,8 @@ pub extern "C" fn wl_reading(
         value.old value.new answer.new }
 {
     let found = meter::scaled::reading_of(told::given::scaled(defined, integer, scale));
-    put_shown(answer, value, found);
+    if let Ok(Reading::Whole(v) | Reading::Between(v)) = found {
+        *value = v;
+    }
+    *answer = told(found, reading_numbers);
 }

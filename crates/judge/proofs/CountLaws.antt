@@ -1,7 +1,6 @@
 -- The size and the totals of a main header that has come and shows no fault: their fields are numbers, and small. By mphr's export.
 -- Assumes nothing.
-use Rattle.std.proofs.Common.{◌≡◌, ℕ, ◌+◌, ◌*◌, ◌<◌, ◌≤◌, true, false, List, length, get_or, set, sym, ◌∙◌, arith, length-set, get_or-set_other, get_or-set_same}
-use native.Mathlib.Decide.{ℕ_discrete}
+use Rattle.std.proofs.Common.{◌≡◌, ℕ, ◌+◌, ◌*◌, ◌<◌, ◌≤◌, true, false, List, length, get_or, sym, ◌∙◌, arith}
 use Rattle.text.specs.Field.{is_number, count_at}
 use Rattle.text.proofs.Exact.{is_small, count_is}
 use Rattle.mphr.specs.Table.{declared, total, Fine}
@@ -41,16 +40,3 @@ pub record Placed (a t : List ℕ) (j : ℕ) : Type 0 where
   pub within : j ≤ 9
   pub nine : length t ≡ 9
   pub same : (c : ℕ) → c < j → get_or t c 0 ≡ count_at a (2675 + 39 * c) 6
-
-pub put_first : {a t : List ℕ} → length t ≡ 9 → Placed a t 0
-put_first h = record { within = omega arith; nine = h; same = λ c l. absurd (omega arith) }
-
-pub put_next : {a t : List ℕ} {j v : ℕ} → Placed a t j → j < 9 → v ≡ count_at a (2675 + 39 * j) 6 → Placed a (set t j v) (j + 1)
-put_next {a} {t} {j} {v} p h e = record { within = omega arith; nine = simp length-set p.nine; same = λ c l. go c l (ℕ_discrete c j) }
-  where
-    go : (c : ℕ) → c < j + 1 → Dec (c ≡ j) → get_or (set t j v) c 0 ≡ count_at a (2675 + 39 * c) 6
-    go c l (yes q) = rw q (rw (get_or-set_same t j v 0 (omega (arith, p.nine))) e)
-    go c l (no n) = rw (get_or-set_other t j c v 0 n) (p.same c (omega (arith, n)))
-
-pub put_last : {a t : List ℕ} {j : ℕ} → Placed a t j → 9 ≤ j → TotalsRead a t
-put_last p h = record { nine = p.nine; read = λ c l. p.same c (omega arith) }

@@ -1,18 +1,24 @@
 -- What the buffer says of a record, whatever its room: each pointer at or into the record by its own entry. Assumes nothing.
-use Rattle.std.proofs.Common.{◌≡◌, ℕ, ◌+◌, ◌*◌, ◌<◌, ◌≤◌, List, length, get_or, refl, ◌∙◌, zero-le, le_refl, arith}
+use Rattle.std.proofs.Common.{◌≡◌, ℕ, ◌+◌, ◌*◌, ◌<◌, ◌≤◌, List, length, take, drop, ◌++◌, get_or, subst, sym, refl, ◌∙◌, zero-le, le_refl, arith, length-append, length-drop, length-take-le, get_or-take}
+use Rattle.std.specs.List.{Contains}
+use Rattle.std.specs.List.Sorted.{IsPermutation, IsNonDecreasing}
+use Rattle.std.proofs.lemmas.List.{get_or_default, get_or_append_left}
+use Rattle.std.proofs.lemmas.List.Sorted.{Contains-permutation, length_permutation}
+use Rattle.std.proofs.lemmas.List.Elements.{Contains-get_or}
 use native.Mathlib.Decide.{dec_lt}
 use Rattle.judge.specs.declared.pending.Hold.{Hold}
 use Rattle.judge.specs.declared.pointers.Pointers.{Pointers}
 use Rattle.judge.specs.Table.{Site, size_at, kind_at, aim_at, offset_at}
 use Rattle.judge.specs.Step.{any, Points, Quiet, Calm, Kept}
-use Rattle.judge.specs.Sorting.{Shuffled, Sorted}
-use Rattle.judge.specs.Pending.{key_of, Held, Holds, GatheredIs, nothing_held, no_hold, ReadyIs, SkippedIs, HoldIs, EasedIs}
-use Rattle.judge.proofs.SortingLaws.{sorted_none}
+use Rattle.judge.specs.Pending.{Sorted, key_of, Held, Holds, GatheredIs, nothing_held, no_hold, ReadyIs, SkippedIs, HoldIs, EasedIs}
 use Rattle.judge.proofs.ScanLaws.{bounded}
 
 -- the same pointers, from a later byte on
 pub later : {a : List ℕ} {i i' : ℕ} {h : List ℕ} {k : Hold} → i ≤ i' → HoldIs a i h k → HoldIs a i' h k
 later l k = record { begun = k.begun; few = k.few; sorted = k.sorted; all = λ p w. k.all p (bounded w w.before (omega (arith, w.above)) w.below) }
+
+sorted_none : {h : List ℕ} → Sorted h 0
+sorted_none = record { rise = λ i j l u. absurd (omega arith) }
 
 pub none_held : {a : List ℕ} {i : ℕ} {h : List ℕ} → HoldIs a i h no_hold
 none_held = record { begun = le_refl _; few = zero-le; sorted = sorted_none; all = λ p w. absurd (omega (arith, w.below)) }
@@ -25,13 +31,28 @@ pub ready_still : {a h : List ℕ} {e i x : ℕ} {r : Hold} → HoldIs a i h r �
 ready_still b f = record { same = refl; begun = b.begun; few = b.few; end_is = f; sorted = b.sorted; all = λ p w _. (rw f at b.all) p w }
 
 -- what was gathered is put in order
-pub ready_filled : {a h h' : List ℕ} {room e i x n edge : ℕ} → GatheredIs a h room e i edge x n → n ≤ length h → Shuffled h h' n → Sorted h' n → ReadyIs a h' room e i x (record { next = 0; count = n; edge = edge; end = e; due = i })
-ready_filled {a} {h} {h'} {room} {e} {i} {x} {n} {edge} g l s o = record { same = s.same ∙ g.same; begun = zero-le; few = omega (arith, g.same); end_is = refl; sorted = o; all = λ p w u. moved p (g.all (omega (arith, g.same)) p w u) }
+module _ (h ys : List ℕ) (n : ℕ) (fits : n ≤ length h) (moved : IsPermutation (take n h) ys) where
+  as_many : length ys ≡ n
+  as_many = length_permutation _ _ moved ∙ length-take-le n h fits
+
+  -- each of the first n is among them still
+  among : (k : ℕ) → k < n → (j : ℕ) × (j < n) × (get_or (ys ++ drop n h) j 0 ≡ get_or h k 0)
+  among k u =
+      let x = get_or h k 0 in
+      let c : Contains ys x = Contains-permutation _ _ _ moved (subst (Contains (take n h)) (get_or-take n h k 0 u) (Contains-get_or (take n h) k 0 (omega (arith, length-take-le n h fits)))) in
+      (c.0, omega (arith, c.1, as_many), get_or_append_left ys (drop n h) 0 c.0 c.1 ∙ get_or_default ys c.0 0 x c.1 ∙ c.2)
+
+  in_order : IsNonDecreasing ys → Sorted (ys ++ drop n h) n
+  in_order o = record { rise = λ i j l u. rw (get_or_append_left ys (drop n h) 0 i (omega (arith, as_many)), get_or_append_left ys (drop n h) 0 j (omega (arith, as_many))) (o i j 0 l (omega (arith, as_many))) }
+
+pub ready_filled : {a h ys : List ℕ} {room e i x n edge : ℕ} → GatheredIs a h room e i edge x n → n ≤ length h → IsPermutation (take n h) ys → IsNonDecreasing ys → ReadyIs a (ys ++ drop n h) room e i x (record { next = 0; count = n; edge = edge; end = e; due = i })
+ready_filled {a} {h} {ys} {n = n} g l m o =
+    record { same = omega (arith, length-append ys (drop n h), length-drop n h, as_many h ys n l m, g.same); begun = zero-le; few = omega (arith, g.same); end_is = refl; sorted = in_order h ys n l m o; all = λ p w u. still p (g.all (omega (arith, g.same)) p w u) }
   where
-    moved : (p : Site) → Held a h 0 n p.at → Held a h' 0 n p.at
-    moved p c =
-        let m = s.all n c.at (le_refl _) c.within in
-        record { at = m.place; after = zero-le; within = m.within; entry = record { value = m.there ∙ c.entry.value; small = c.entry.small } }
+    still : (p : Site) → Held a h 0 n p.at → Held a (ys ++ drop n h) 0 n p.at
+    still p c =
+        let q = among h ys n l m c.at c.within in
+        record { at = q.0; after = zero-le; within = q.1; entry = record { value = q.2 ∙ c.entry.value; small = c.entry.small } }
 
 -- ---- what is eased
 module _ {a h : List ℕ} {room e i k x j due : ℕ} {v : Hold} (f : ReadyIs a h room e i x v) (s : SkippedIs h v.next v.count x j) (x-is : x ≡ key_of i k) (k-is : k ≡ kind_at a i) (small : k < any) (inside : due ≤ v.edge) (soonest : j < v.count → due * any ≤ get_or h j 0) where

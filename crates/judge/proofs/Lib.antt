@@ -11,7 +11,6 @@ pub mod RunLaws
 pub mod StretchLaws
 pub mod ProfileLaws
 pub mod TimesLaws
-pub mod SortingLaws
 pub mod PendingLaws
 pub mod EaseLaws
 pub mod Local

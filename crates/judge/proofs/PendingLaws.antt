@@ -1,9 +1,8 @@
 -- The scan gathers the pointers that it meets; those of the held that are alike are passed. Assumes nothing.
-use Rattle.std.proofs.Common.{◌≡◌, ℕ, ◌+◌, ◌<◌, ◌≤◌, ◌⊎◌, List, length, get_or, set, sym, refl, ap, ◌∙◌, inl, inr, ⊎_elim, zero-le, le_refl, arith, length-set, get_or-set_other, get_or-set_same}
-use native.Mathlib.Decide.{ℕ_discrete}
+use Rattle.std.proofs.Common.{◌≡◌, ℕ, ◌+◌, ◌<◌, ◌≤◌, ◌⊎◌, List, length, get_or, set, sym, refl, ap, ◌∙◌, inl, inr, ⊎_elim, zero-le, arith, length-set, get_or-set_other, get_or-set_same}
 use Rattle.judge.specs.Table.{Site, class_at, size_at, aim_at, offset_at}
 use Rattle.judge.specs.Step.{any, Points, Scan, Met}
-use Rattle.judge.specs.Pending.{key_of, EntryIs, Held, HoldsBut, PutIs, SkippedIs}
+use Rattle.judge.specs.Pending.{key_of, EntryIs, Held, HoldsBut, PutIs}
 use Rattle.judge.proofs.WayLaws.{leads_le}
 use Rattle.judge.proofs.ScanLaws.{scan_sound, scan_pass, before_or_at}
 
@@ -59,14 +58,3 @@ module _ {a : List ℕ} {e lo hi x q : ℕ} (s : Walk a e q) (r : q < e) {h : Li
 
 pub put_one : (h : List ℕ) (n v : ℕ) {x : ℕ} → n < length h → PutIs h (set h n v) n v x (n + 1)
 put_one h n v l = record { same = length-set h n v; more = omega arith; old = λ j u. get_or-set_other h n j v 0 (λ e. omega arith); new = λ u w. (refl, get_or-set_same h n v 0 l) }
-
--- ---- those that are alike
-pub skip_none : {h : List ℕ} {j n x : ℕ} → j ≤ n → SkippedIs h j n x j
-skip_none l = record { low = le_refl _; high = l; alike = λ i u v. absurd (omega arith) }
-
-pub skip_one : {h : List ℕ} {j n x r : ℕ} → SkippedIs h j n x r → r < n → get_or h r 0 ≡ x → SkippedIs h j n x (r + 1)
-skip_one {h} {j} {n} {x} {r} s l e = record { low = omega (arith, s.low); high = omega arith; alike = λ i u v. alike i u v (ℕ_discrete i r) }
-  where
-    alike : (i : ℕ) → j ≤ i → i < r + 1 → Dec (i ≡ r) → get_or h i 0 ≡ x
-    alike i u v (yes f) = ap (λ (z : ℕ). get_or h z 0) f ∙ e
-    alike i u v (no d) = s.alike i u (omega (arith, d))

@@ -1,40 +1,10 @@
 -- A profile, line by line and record by record: what is asked of the lines that are left is what is asked of all; and records of one size, one after the
 -- other, as far as they meet it. Assumes nothing.
-use Rattle.std.proofs.Common.{◌≡◌, ℕ, zero, suc, ◌+◌, ◌<◌, ◌≤◌, Bool, true, false, not, ◌||◌, List, [], ◌∷◌, length, get_or, drop, sym, refl, ap, ◌∙◌, subst, add-one, arith, drop-cons, eq-eqb, ne_eqb}
-use lib.Seq.{drop-nil}
+use Rattle.std.proofs.Common.{◌≡◌, ℕ, zero, suc, ◌+◌, ◌<◌, ◌≤◌, Bool, true, false, not, ◌||◌, List, [], ◌∷◌, length, get_or, sym, refl, subst, arith}
 use Rattle.judge.specs.Table.{size_at}
 use Rattle.judge.specs.Stretch.{Even}
 use Rattle.judge.specs.Stretch as S
 use Rattle.judge.specs.Profile.{is_let, lets, speaks, allows, is_allowed, Meeting, over, further, OneSize, Passed}
-
--- ---- the lines, one after the other
-past : (p : List (List ℕ)) (i : ℕ) → length p ≤ i → drop i p ≡ []
-past [] i h = drop-nil i
-past (l ∷ p) zero h = absurd (omega arith)
-past (l ∷ p) (suc i) h = past p i (omega arith)
-
-module _ (p : List (List ℕ)) (i : ℕ) (h : i < length p) where
-  line_at : drop i p ≡ get_or p i [] ∷ drop (i + 1) p
-  line_at = drop-cons p i [] h ∙ ap (λ (n : ℕ). get_or p i [] ∷ drop n p) (sym (add-one i))
-
-  pub line_no : (c g s v : ℕ) → is_let (get_or p i []) c g s v ≡ false → lets (drop i p) c g s v ≡ lets (drop (i + 1) p) c g s v
-  line_no c g s v e = rw line_at (rw e refl)
-
-  pub spoken_yes : (c : ℕ) → get_or (get_or p i []) 0 0 ≡ c → speaks (drop i p) c ≡ true
-  spoken_yes c e = rw line_at (rw (eq-eqb (get_or (get_or p i []) 0 0) c e) refl)
-
-  pub spoken_no : (c : ℕ) → (get_or (get_or p i []) 0 0 ≡ c → ⊥) → speaks (drop i p) c ≡ speaks (drop (i + 1) p) c
-  spoken_no c e = rw line_at (rw (ne_eqb (get_or (get_or p i []) 0 0) c e) refl)
-
-pub lines_over : (p : List (List ℕ)) (i c g s v : ℕ) → length p ≤ i → lets (drop i p) c g s v ≡ false
-lines_over p i c g s v h = ap (λ (l : List (List ℕ)). lets l c g s v) (past p i h)
-
-pub spoken_over : (p : List (List ℕ)) (i c : ℕ) → length p ≤ i → speaks (drop i p) c ≡ false
-spoken_over p i c h = ap (λ (l : List (List ℕ)). speaks l c) (past p i h)
-
-pub all_lines : (p : List (List ℕ)) → drop 0 p ≡ p
-all_lines [] = refl
-all_lines (l ∷ p) = refl
 
 -- a line of the profile lets through what the profile does
 or_true : (b : Bool) → b || true ≡ true

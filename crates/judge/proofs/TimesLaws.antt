@@ -5,9 +5,11 @@ use native.Mathlib.Decide.{ℕ_discrete}
 use Rattle.calendar.specs.Said.{answer}
 use Rattle.meter.specs.Integer.{be_at}
 use Rattle.meter.specs.Time.{last_milli, is_milli, is_time, time_of, time_at, compared}
+use Rattle.std.specs.declared.option.Option.TheVariants.{Some, None}
+use Rattle.std.specs.declared.cmp.Ordering.TheVariants.{Less, Equal, Greater}
+use Rattle.std.specs.declared.option.Option.{Option}
 use Rattle.meter.specs.declared.time.Time.{Time}
-use Rattle.meter.specs.declared.time.Time.TheVariants as T
-use Rattle.meter.specs.declared.time.Order.TheVariants as O
+use Rattle.meter.specs.Instant as T
 use Rattle.meter.proofs.TimeLaws.{bits_none, bits_some, every_day}
 use Rattle.record.specs.Times.{is_after, timed_at}
 
@@ -41,7 +43,7 @@ module _ (day ms next : ℕ) (e : next ≡ (ms + 1) % 2 ^ 32) (f : ms < 42949672
 -- ---- the order of two times
 module _ (x y : ℕ) where
   abbrev outcome : Bool → Bool → Bool → Bool → Bool
-  outcome p q r t = is_after (answer (cond p O.Before (cond q O.After (cond r O.Before (cond t O.After O.Same)))))
+  outcome p q r t = is_after (answer (cond p Less (cond q Greater (cond r Less (cond t Greater Equal)))))
 
   early : (p q r t : Bool) → q ≡ false → (p ≡ false → t ≡ false) → outcome p q r t ≡ false
   early true q r t e f = refl
@@ -60,14 +62,14 @@ module _ (x y : ℕ) where
       let f = bits_some y m in
       let i : is_milli (high x) (low x) ≡ true = sym (ap is_time e) ∙ p in
       let j : is_milli (high y) (low y) ≡ true = sym (ap is_time f) ∙ q in
-      ap (λ (t : Time). is_after (compared t (time_of y))) e ∙ ap (λ (t : Time). is_after (compared (T.At (high x) (low x)) t)) f ∙ rw (i, j)
+      ap (λ (t : Option Time). is_after (compared t (time_of y))) e ∙ ap (λ (t : Option Time). is_after (compared (T.At (high x) (low x)) t)) f ∙ rw (i, j)
 
   none_first : x ≡ 0xffff_ffff_ffff → is_after (compared (time_of x) (time_of y)) ≡ false
-  none_first e = ap (λ (t : Time). is_after (compared t (time_of y))) (bits_none x e)
+  none_first e = ap (λ (t : Option Time). is_after (compared t (time_of y))) (bits_none x e)
 
-  none_second : (t : Time) → is_after (compared t T.Undefined) ≡ false
-  none_second T.Undefined = refl
-  none_second (T.At d m) = refl
+  none_second : (t : Option Time) → is_after (compared t None) ≡ false
+  none_second None = refl
+  none_second (Some t) = refl
 
   not_after : is_time (time_of x) ≡ true → is_time (time_of y) ≡ true → (x ≤ y) ⊎ (x ≡ 0xffff_ffff_ffff) → is_after (compared (time_of x) (time_of y)) ≡ false
   not_after p q (inr e) = none_first e
@@ -75,7 +77,7 @@ module _ (x y : ℕ) where
     where
       go : Dec (x ≡ 0xffff_ffff_ffff) → Dec (y ≡ 0xffff_ffff_ffff) → is_after (compared (time_of x) (time_of y)) ≡ false
       go (yes e) d = none_first e
-      go (no n) (yes e) = ap (λ (t : Time). is_after (compared (time_of x) t)) (bits_none y e) ∙ none_second (time_of x)
+      go (no n) (yes e) = ap (λ (t : Option Time). is_after (compared (time_of x) t)) (bits_none y e) ∙ none_second (time_of x)
       go (no n) (no m) =
           both_some n m p q
           ∙ early (ltb (high x) (high y)) (ltb (high y) (high x)) (ltb (low x) (low y)) (ltb (low y) (low x)) (le-ltb (high y) (high x) (omega arith)) (λ e. le-ltb (low y) (low x) (let g = ltb-false (high x) (high y) e in omega arith))

@@ -3,8 +3,11 @@
 use Rattle.std.specs.Prelude.{◌≡◌, ℕ, ◌<◌, ◌≤◌, ◌⊎◌, List, length}
 use Rattle.mphr.specs.Table.{declared}
 use Rattle.judge.specs.Table.{Site, first, Leads, Clean, Given}
-use Rattle.judge.specs.declared.arrival.Extent.{Extent}
-use Rattle.judge.specs.declared.arrival.Extent.TheVariants.{Part, Entire, Refused}
+use Rattle.std.specs.declared.option.Option.TheVariants.{Some, None}
+use Rattle.std.specs.declared.result.Result.TheVariants.{Ok, Err}
+use Rattle.std.specs.declared.option.Option.{Option}
+use Rattle.std.specs.declared.result.Result.{Result}
+use Rattle.calendar.specs.declared.Refusal.{Refusal}
 
 -- it is short of 3,307 or of D
 abbrev pub Short : List ℕ → Type 0
@@ -23,7 +26,7 @@ pub record Covered (a : List ℕ) (c : ℕ) : Type 0 where
   pub ends : last.at ≡ declared a
   pub counted : last.count ≡ c
 
-abbrev pub ExtentIs : List ℕ → Extent → Type 0
-ExtentIs a Part = Clean a × Short a
-ExtentIs a (Entire c) = Complete a × Covered a c
-ExtentIs a (Refused r) = Given a r.number r.place
+abbrev pub ExtentIs : List ℕ → Result (Option ℕ) Refusal → Type 0
+ExtentIs a (Ok None) = Clean a × Short a
+ExtentIs a (Ok (Some c)) = Complete a × Covered a c
+ExtentIs a (Err r) = Given a r.number r.place

@@ -6,4 +6,3 @@ pub mod Turning
 pub mod Extent
 pub mod Run
 pub mod Pending
-pub mod Sorting

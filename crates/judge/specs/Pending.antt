@@ -4,7 +4,10 @@ use Rattle.std.specs.Prelude.{◌≡◌, ℕ, ◌+◌, ◌*◌, ◌<◌, ◌≤�
 use Rattle.judge.specs.declared.pending.Hold.{Hold}
 use Rattle.judge.specs.Table.{Site, size_at, aim_at, offset_at}
 use Rattle.judge.specs.Step.{any, Points, Calm}
-use Rattle.judge.specs.Sorting.{Sorted}
+
+-- the first n of h never descend
+pub record Sorted (h : List ℕ) (n : ℕ) : Type 0 where
+  pub rise : (i j : ℕ) → i ≤ j → j < n → slice_index h i ≤ slice_index h j
 
 -- ---- what is held
 -- a pointer at byte t, of kind k, as one number

@@ -14,8 +14,9 @@ use Rattle.judge.specs.declared.pointers.Pointers.{Pointers}
 use Rattle.judge.specs.declared.arrival.Arrival.{Arrival}
 use Rattle.judge.specs.declared.arrival.Arrival.TheVariants.{Refused}
 use Rattle.judge.specs.declared.arrival.Walked.{Walked}
-use Rattle.judge.specs.declared.arrival.Turned.{Turned}
-use Rattle.judge.specs.declared.arrival.Turned.TheVariants.{Stop, Go}
+use Rattle.judge.specs.declared.arrival.Passed.{Passed}
+use Rattle.std.specs.declared.ops.ControlFlow.{ControlFlow}
+use Rattle.std.specs.declared.ops.ControlFlow.TheVariants.{Break, Continue}
 
 -- the fault is at x, or further on
 abbrev pub Onward : {a : List ℕ} → Site → Fault a → Type 0
@@ -67,9 +68,9 @@ pub record Gone (a : List ℕ) (x : Site) (to c : ℕ) (w : Pointers) : Type 0 w
   pub turn : Turn a (site (x.count + 1) to c (one_more x.tally c))
   pub kept : Kept a to w
 
-abbrev pub TurnedIs : List ℕ → Site → Turned → Type 0
-TurnedIs a x (Stop r) = Judged a r
-TurnedIs a x (Go to c w) = Gone a x to c w
+abbrev pub TurnedIs : List ℕ → Site → ControlFlow Arrival Passed → Type 0
+TurnedIs a x (Break r) = Judged a r
+TurnedIs a x (Continue p) = Gone a x p.to p.class p.pointers
 
 abbrev pub refused_at : ℕ → ℕ → Arrival
 refused_at n p = Refused (refusing n p)

@@ -1,34 +1,26 @@
 // The arrival judge: one pass over the records' headers, in constant memory; payloads are not read.
-ghost use Rattle.std.specs.Prelude.{◌≡◌, ◌+◌, ◌*◌, ◌^◌, ◌<◌, ◌≤◌, length};
-ghost use Rattle.text.specs.Field.{count_at};
+ghost use Rattle.std.specs.Prelude.{◌≡◌, ◌+◌, ◌<◌, ◌≤◌, length};
 ghost use Rattle.record.specs.Follow.{Ruled};
-ghost use Rattle.mphr.specs.Table.{declared, total, Fine};
 ghost use Rattle.judge.specs.Table.{site, Judged};
 ghost use Rattle.judge.specs.Extent.{ExtentIs};
 ghost use Rattle.judge.specs.Stretch.{no_stretch, StretchIs};
 ghost use Rattle.judge.specs.Profile.{Meeting};
-ghost use Rattle.judge.specs.Turning.{Totals, Ready, TurnedIs, refused_at, TotalsRead, Begun, Walking, Over, FewerIs, WalkedIs};
+ghost use Rattle.judge.specs.Turning.{Ready, TurnedIs, refused_at, Begun, Walking, Over, WalkedIs};
 
 use crate::header::{is_part, rank, word};
+use crate::parts::{declared_size, is_fewer, totals_of};
 use crate::pending::{ease, no_hold};
 use crate::pointers::{Body, Pointers, Settled, close_record, no_pointers, settle};
 use crate::profile::{NO_PROFILE, met_on, stride};
-use crate::run::{lesser, run_of};
+use crate::run::run_of;
 use crate::stretch::{Stretch, no_notes, no_stretch, noted};
-use calendar::Refusal;
-use mphr::faults::HeaderFault;
+use calendar::{Refusal, fault};
+use std::ops::ControlFlow;
 
+// The judge's answer. It is an enum of its own: 01 ("Forms for each place") has record and field queries take the judge's enum apart by let .. else.
 #[derive(Clone, Copy)]
 pub enum Arrival {
     Waiting { count: usize, end: usize },
-    Refused(Refusal),
-}
-
-// Whether all of a product has come, with the count of its records.
-#[derive(Clone, Copy)]
-pub enum Extent {
-    Part,
-    Entire { count: usize },
     Refused(Refusal),
 }
 
@@ -43,47 +35,17 @@ pub struct Walked {
 
 #[derive(Clone, Copy)]
 pub struct Surveyed {
-    pub extent: Extent,
+    pub extent: Result<Option<usize>, Refusal>,
     pub stretch: Stretch,
     pub met: usize,
 }
 
-// What a record comes to.
+// What is left of a record that is passed: where the next one starts, its class, and the pointers.
 #[derive(Clone, Copy)]
-pub enum Turned {
-    Stop(Arrival),
-    Go {
-        to: usize,
-        class: u8,
-        pointers: Pointers,
-    },
-}
-
-// The number of a field that has one, as each field of the size and the totals has in a fine main header; 0 of another.
-pub(crate) fn count_at(s: &[u8], at: usize, width: usize) -> usize
-    ensures { result ≡ count_at s.now at width }
-{
-    text::count_at(s, at, width) as usize
-}
-
-// D, the size that the product declares.
-fn size_of(s: &[u8]) -> usize
-    requires { Begun s.now }
-    ensures { (result ≡ declared s.now) × (3307 ≤ result) × (result ≤ 2147483647) }
-{
-    count_at(s, 1485, 11)
-}
-
-// The totals of the records and of each class.
-pub(crate) fn put_totals(s: &[u8], totals: &mut [usize])
-    requires { length totals.old ≡ 9 }
-    ensures { TotalsRead s.now totals.new }
-{
-    let mut j: usize = 0;
-    while j < 9 {
-        totals[j] = count_at(s, 2675 + 39 * j, 6);
-        j += 1;
-    }
+pub struct Passed {
+    pub to: usize,
+    pub class: u8,
+    pub pointers: Pointers,
 }
 
 fn refusal(number: u8, place: usize) -> Arrival
@@ -103,68 +65,66 @@ fn turn(
     at: usize,
     prev: u8,
     w: Pointers,
-) -> Turned
+) -> ControlFlow<Arrival, Passed>
     requires { Ready s.now d (site count at prev tally.now) totals.now w × Ruled follow.now }
     ensures { TurnedIs s.now (site count at prev tally.now) result }
 {
     if s.len() < at + 20 {
-        return Turned::Stop(Arrival::Waiting { count, end: at });
+        return ControlFlow::Break(Arrival::Waiting { count, end: at });
     }
     let h = rank(s, follow, totals, tally, d, at, prev);
     if h == 6 {
-        return Turned::Stop(refusal(6, at + 20));
+        return ControlFlow::Break(refusal(fault::BYTES_LEFT, at + 20));
     }
     if h < 12 {
-        return Turned::Stop(refusal(h, at));
+        return ControlFlow::Break(refusal(h, at));
     }
     let to = at + word(s, at + 4);
     match settle(s, w, at, to, d) {
-        Settled::Inside(q) => Turned::Stop(refusal(13, q)),
-        Settled::Other(q) => Turned::Stop(refusal(14, q)),
+        Settled::Inside(q) => ControlFlow::Break(refusal(fault::POINTS_INSIDE, q)),
+        Settled::Other(q) => ControlFlow::Break(refusal(fault::POINTS_AT_OTHER, q)),
         Settled::Clear(v) => match close_record(s, v, at, to, d) {
-            Body::Part => Turned::Stop(Arrival::Waiting { count, end: at }),
-            Body::Six => Turned::Stop(refusal(6, to)),
-            Body::BadTarget => Turned::Stop(refusal(12, at)),
-            Body::Entire(pointers) => Turned::Go {
+            Body::Part => ControlFlow::Break(Arrival::Waiting { count, end: at }),
+            Body::Six => ControlFlow::Break(refusal(fault::BYTES_LEFT, to)),
+            Body::BadTarget => ControlFlow::Break(refusal(fault::TARGET, at)),
+            Body::Entire(pointers) => ControlFlow::Continue(Passed {
                 to,
                 class: s[at],
                 pointers,
-            },
+            }),
         },
     }
 }
 
-// A class has fewer records than its total.
-pub(crate) fn is_short(totals: &[usize], tally: &[usize]) -> bool
-    requires { (length totals.now ≡ 9) × (length tally.now ≡ 9) }
-    ensures { FewerIs totals.now tally.now result }
-{
-    let mut c: usize = 1;
-    while c < 9 {
-        if tally[c] < totals[c] {
-            return true;
-        }
-        c += 1;
-    }
-    false
-}
-
 // The end of the walk, where each byte of d has come.
-fn ended(s: &[u8], totals: &[usize], tally: &[usize], d: usize, count: usize, prev: u8) -> Arrival
+fn ended(
+    s: &[u8],
+    totals: &[usize; 9],
+    tally: &[usize; 9],
+    d: usize,
+    count: usize,
+    prev: u8,
+) -> Arrival
     requires { Over s.now d (site count d prev tally.now) totals.now }
     ensures { Judged s.now result }
 {
-    if is_short(totals, tally) {
-        return refusal(15, d);
+    if is_fewer(totals, tally) {
+        return refusal(fault::TOO_FEW, d);
     }
     if d < s.len() {
-        return refusal(16, d);
+        return refusal(fault::BEYOND, d);
     }
     Arrival::Waiting { count, end: d }
 }
 
 // The walk over the records after the main header, with a room for the pointers that are still to come.
-fn walk_on(s: &[u8], profile: &[[u8; 6]], totals: &[usize], held: &mut [usize], d: usize) -> Walked
+fn walk_on(
+    s: &[u8],
+    profile: &[[u8; 6]],
+    totals: &[usize; 9],
+    held: &mut [usize],
+    d: usize,
+) -> Walked
     requires { Walking s.now totals.now d }
     ensures { WalkedIs profile.now s.now result }
 {
@@ -183,7 +143,7 @@ fn walk_on(s: &[u8], profile: &[[u8; 6]], totals: &[usize], held: &mut [usize], 
         hold = ease(s, held, hold, w, at, d);
         w.due = hold.due;
         match turn(s, &follow, totals, &tally, d, count, at, prev, w) {
-            Turned::Stop(answer) => {
+            ControlFlow::Break(answer) => {
                 let stretch = notes.longest;
                 return Walked {
                     answer,
@@ -191,30 +151,27 @@ fn walk_on(s: &[u8], profile: &[[u8; 6]], totals: &[usize], held: &mut [usize], 
                     met,
                 };
             }
-            Turned::Go {
-                to,
-                class,
-                pointers,
-            } => {
-                let k = class as usize;
+            ControlFlow::Continue(passed) => {
+                let k = passed.class as usize;
                 let n = tally[k] + 1;
+                let size = passed.to - at;
                 let run = run_of(
                     s,
                     &follow,
-                    class,
-                    to - at,
-                    to,
-                    pointers.due,
+                    passed.class,
+                    size,
+                    passed.to,
+                    passed.pointers.due,
                     d,
-                    lesser(totals[k] - n, most),
+                    most.min(totals[k] - n),
                 );
                 tally[k] = n + run.count;
                 count += 1 + run.count;
-                notes = noted(notes, at, to - at, run.end, 1 + run.count);
-                met = met_on(s, profile, met, at, to - at, run.end);
+                notes = noted(notes, at, size, run.end, 1 + run.count);
+                met = met_on(s, profile, met, at, size, run.end);
                 at = run.end;
-                prev = class;
-                w = pointers;
+                prev = passed.class;
+                w = passed.pointers;
             }
         }
     }
@@ -226,35 +183,27 @@ fn walk_on(s: &[u8], profile: &[[u8; 6]], totals: &[usize], held: &mut [usize], 
     }
 }
 
-// The walk with a room for thousands of pointers, and for tens of thousands.
-fn walk_2048(s: &[u8], profile: &[[u8; 6]], totals: &[usize], d: usize) -> Walked
-    requires { Walking s.now totals.now d }
+// The walk with a room for N pointers.
+fn walk_in<const N: usize>(s: &[u8], profile: &[[u8; 6]], totals: &[usize; 9], d: usize) -> Walked
+    requires { Walking s.now totals.now d × (N ≤ 16384) }
     ensures { WalkedIs profile.now s.now result }
 {
-    let mut held = [0usize; 2048];
-    walk_on(s, profile, totals, &mut held, d)
-}
-
-fn walk_16384(s: &[u8], profile: &[[u8; 6]], totals: &[usize], d: usize) -> Walked
-    requires { Walking s.now totals.now d }
-    ensures { WalkedIs profile.now s.now result }
-{
-    let mut held = [0usize; 16384];
+    let mut held = [0usize; N];
     walk_on(s, profile, totals, &mut held, d)
 }
 
 // The walk of a product of many pointers. A large room is a large frame, which a call touches page by page. The compiler puts none into
 // a function that calls itself, and such a function into no other, so that products of few pointers have a small frame. It calls itself
 // for each million of pointers: a total has six digits, so it never does, which the compiler cannot know.
-fn walk_far(s: &[u8], profile: &[[u8; 6]], totals: &[usize], d: usize, millions: usize) -> Walked
+fn walk_far(s: &[u8], profile: &[[u8; 6]], totals: &[usize; 9], d: usize, millions: usize) -> Walked
     requires { Walking s.now totals.now d }
     ensures { WalkedIs profile.now s.now result }
 {
     if millions == 0 {
         if totals[3] <= 2048 {
-            return walk_2048(s, profile, totals, d);
+            return walk_in::<2048>(s, profile, totals, d);
         }
-        return walk_16384(s, profile, totals, d);
+        return walk_in::<16384>(s, profile, totals, d);
     }
     let walked = walk_far(s, profile, totals, d, millions - 1);
     let answer = walked.answer;
@@ -273,19 +222,16 @@ fn walk(s: &[u8], profile: &[[u8; 6]]) -> Walked
     requires { Begun s.now }
     ensures { WalkedIs profile.now s.now result }
 {
-    let d = size_of(s);
+    let d = declared_size(s);
     if is_part(3307, d) {
-        return at_once(refusal(6, 3307));
+        return at_once(refusal(fault::BYTES_LEFT, 3307));
     }
-    let mut totals = [0usize; 9];
-    put_totals(s, &mut totals);
+    let totals = totals_of(s);
     if totals[3] < 2 {
-        let mut held = [0usize; 1];
-        return walk_on(s, profile, &totals, &mut held, d);
+        return walk_in::<1>(s, profile, &totals, d);
     }
     if totals[3] <= 256 {
-        let mut held = [0usize; 256];
-        return walk_on(s, profile, &totals, &mut held, d);
+        return walk_in::<256>(s, profile, &totals, d);
     }
     let millions = totals[3] / 1000000;
     walk_far(s, profile, &totals, d, millions)
@@ -306,8 +252,8 @@ fn judged(s: &[u8], profile: &[[u8; 6]]) -> Walked
     ensures { WalkedIs profile.now s.now result }
 {
     match mphr::faults::header_fault(s) {
-        HeaderFault::Refused(r) => at_once(Arrival::Refused(r)),
-        HeaderFault::Clean => {
+        Err(r) => at_once(Arrival::Refused(r)),
+        Ok(()) => {
             if s.len() < 3307 {
                 return at_once(Arrival::Waiting { count: 0, end: 0 });
             }
@@ -325,20 +271,20 @@ pub fn judge_arrival(s: &[u8]) -> Arrival
 }
 
 // The same refusals; else whether each byte has come of the main header and of the size that it declares.
-fn extent_of(s: &[u8], answer: Arrival) -> Extent
+fn extent_of(s: &[u8], answer: Arrival) -> Result<Option<usize>, Refusal>
     requires { Judged s.now answer }
     ensures { ExtentIs s.now result }
 {
     match answer {
-        Arrival::Refused(r) => Extent::Refused(r),
+        Arrival::Refused(r) => Err(r),
         Arrival::Waiting { count, end: _ } => {
             if count == 0 {
-                return Extent::Part;
+                return Ok(None);
             }
-            if s.len() < size_of(s) {
-                return Extent::Part;
+            if s.len() < declared_size(s) {
+                return Ok(None);
             }
-            Extent::Entire { count }
+            Ok(Some(count))
         }
     }
 }
@@ -360,7 +306,7 @@ pub fn survey(s: &[u8], profile: &[[u8; 6]]) -> Surveyed
     }
 }
 
-pub fn judge_extent(s: &[u8]) -> Extent
+pub fn judge_extent(s: &[u8]) -> Result<Option<usize>, Refusal>
     ensures { ExtentIs s.now result }
 {
     let none: usize = 0;

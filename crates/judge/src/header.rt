@@ -5,18 +5,12 @@ ghost use Rattle.record.specs.Header.{is_class};
 ghost use Rattle.record.specs.Follow.{may_follow, Ruled};
 ghost use Rattle.judge.specs.Step.{Ranked, Ranking, RankIs, Rankable, SizedIs, SixIn};
 
-pub(crate) fn wide(b: u8) -> usize
-    ensures { (result ≡ b) × (result < 256) }
-{
-    b as usize
-}
-
 // The number in the 2 bytes from `at` on.
 pub(crate) fn pair(s: &[u8], at: usize) -> usize
     requires { at + 2 ≤ length s.now }
     ensures { (result ≡ be_at s.now at 2) × (result < 65536) }
 {
-    wide(s[at]) * 256 + wide(s[at + 1])
+    s[at] as usize * 256 + s[at + 1] as usize
 }
 
 // The number in the 3 bytes from `at` on.
@@ -24,7 +18,7 @@ pub(crate) fn triple(s: &[u8], at: usize) -> usize
     requires { at + 3 ≤ length s.now }
     ensures { (result ≡ be_at s.now at 3) × (result < 16777216) }
 {
-    pair(s, at) * 256 + wide(s[at + 2])
+    pair(s, at) * 256 + s[at + 2] as usize
 }
 
 // The number in the 4 bytes from `at` on.
@@ -32,7 +26,7 @@ pub(crate) fn word(s: &[u8], at: usize) -> usize
     requires { at + 4 ≤ length s.now }
     ensures { (result ≡ be_at s.now at 4) × (result < 4294967296) }
 {
-    triple(s, at) * 256 + wide(s[at + 3])
+    triple(s, at) * 256 + s[at + 3] as usize
 }
 
 // 1 to 19 bytes of d are left from `at` on.

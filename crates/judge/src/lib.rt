@@ -11,6 +11,5 @@ mod pointers;
 pub mod profile;
 mod reach;
 mod run;
-mod sorting;
 pub mod stretch;
 mod times;

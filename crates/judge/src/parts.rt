@@ -9,10 +9,9 @@ ghost use Rattle.mphr.specs.Table.{declared};
 ghost use Rattle.judge.specs.Step.{RankIs};
 ghost use Rattle.judge.specs.Turning.{Begun, TotalsRead, Totals, FewerIs};
 
-use crate::arrival::{count_at, is_short, put_totals};
 pub use crate::header::is_part;
 use crate::header::{rank_in, triple, word};
-pub use crate::run::{Run, lesser, run_of};
+pub use crate::run::{Run, run_of};
 
 // The lowest number of the faults that a header shows by itself, as `rank_in` has it, where a record of the class `prev` is before it
 // and the table is the rule; 12, the number of none of them, where `prev` is no class.
@@ -34,8 +33,15 @@ pub fn header_rank<'a>(
     rank_in(under, follow, totals, tally, left, 0, prev)
 }
 
+// The number of a field that has one, as each field of the size and the totals has in a fine main header; 0 of another.
+fn count_at(main: &[u8], at: usize, width: usize) -> usize
+    ensures { result ≡ count_at main.now at width }
+{
+    text::count_at(main, at, width) as usize
+}
+
 // What the field of the size counts, 0 where it is no number; of a fine main header that is D.
-pub fn declared_size(main: &[u8; 3307]) -> usize
+pub fn declared_size(main: &[u8]) -> usize
     ensures { (result ≡ count_at main.now 1485 11)
         × (Begun main.now → (result ≡ declared main.now) × (3307 ≤ result) × (result ≤ 2147483647)) }
 {
@@ -43,19 +49,26 @@ pub fn declared_size(main: &[u8; 3307]) -> usize
 }
 
 // What the fields of its totals count; of a fine main header those are the totals of the records and of each class.
-pub fn totals_of(main: &[u8; 3307]) -> [usize; 9]
+pub fn totals_of(main: &[u8]) -> [usize; 9]
     ensures { TotalsRead main.now result × (Begun main.now → Totals main.now result) }
 {
     let mut totals = [0usize; 9];
-    put_totals(main, &mut totals);
+    for (j, total) in totals.iter_mut().enumerate() {
+        *total = count_at(main, 2675 + 39 * j, 6);
+    }
     totals
 }
 
 // A class has fewer records than its total.
-pub fn is_fewer<'a>(totals: &'a [usize; 9], tally: &'a [usize; 9]) -> bool
+pub fn is_fewer(totals: &[usize; 9], tally: &[usize; 9]) -> bool
     ensures { FewerIs totals.now tally.now result }
 {
-    is_short(totals, tally)
+    for c in 1..9 {
+        if tally[c] < totals[c] {
+            return true;
+        }
+    }
+    false
 }
 
 // The number in the 4 bytes of a header from `at` on; 0 where they are not all there.

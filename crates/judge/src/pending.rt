@@ -8,8 +8,6 @@ ghost use Rattle.judge.specs.Pending.{key_of, EntryIs, PutIs, GatheredIs, Skippe
 use crate::header::{triple, word};
 use crate::pointers::{ANY, Look, Pointers, look_at};
 use crate::reach::edge_of;
-use crate::run::lesser;
-use crate::sorting::sort;
 
 // What is held: the first that is still to come, how many there are, the edge below which all are held, the end of the last pointer that
 // was looked at, and a byte before which no pointer tells against the record at hand or points past it.
@@ -131,9 +129,7 @@ fn refill(
     if held.len() < count {
         return nothing_held(at, end);
     }
-    if !sort(held, count) {
-        return nothing_held(at, end);
-    }
+    held[..count].sort_unstable();
     Hold {
         next: 0,
         count,
@@ -172,14 +168,12 @@ fn skip(held: &[usize], next: usize, count: usize, named: usize) -> usize
     requires { (next ≤ count) × (count ≤ length held.now) }
     ensures { SkippedIs held.now next count named result }
 {
-    let mut j = next;
-    while j < count {
+    for j in next..count {
         if held[j] != named {
             return j;
         }
-        j += 1;
     }
-    j
+    count
 }
 
 // The target of the next of the held, or the edge.
@@ -190,7 +184,7 @@ fn due_of(held: &[usize], next: usize, count: usize, edge: usize) -> usize
     if count <= next {
         return edge;
     }
-    lesser(edge, held[next] / ANY)
+    edge.min(held[next] / ANY)
 }
 
 // Where the targets are in no order and a pointer may point at the record at `at`: those of the held that name it go, and the target of

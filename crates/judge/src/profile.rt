@@ -32,26 +32,21 @@ fn is_let(line: [u8; 6], class: u8, group: u8, subclass: u8, version: u8) -> boo
 fn line_for(profile: &[[u8; 6]], class: u8, group: u8, subclass: u8, version: u8) -> usize
     ensures { LineIs profile.now class group subclass version result }
 {
-    let mut i: usize = 0;
-    while i < profile.len() {
-        if is_let(profile[i], class, group, subclass, version) {
+    for (i, line) in profile.iter().enumerate() {
+        if is_let(*line, class, group, subclass, version) {
             return i;
         }
-        i += 1;
     }
-    i
+    profile.len()
 }
 
 fn is_spoken(profile: &[[u8; 6]], class: u8) -> bool
     ensures { result ≡ speaks profile.now class }
 {
-    let mut i: usize = 0;
-    while i < profile.len() {
-        let line = profile[i];
+    for line in profile {
         if line[0] == class {
             return true;
         }
-        i += 1;
     }
     false
 }

@@ -5,7 +5,6 @@ ghost use Rattle.judge.specs.Step.{any, Scan};
 
 use crate::header::word;
 use crate::pointers::{ANY, Look, look_at};
-use crate::run::lesser;
 
 // How many parts the room has places for, and how many places are left.
 #[derive(Clone, Copy)]
@@ -53,16 +52,16 @@ fn tally(s: &[u8], parts: &mut [usize], from: usize, end: usize, lo: usize, d: u
 // How many of the parts, from the first on, there is room for.
 fn fit_in(parts: &[usize], room: usize) -> Fit {
     let mut left = room;
-    let mut j: usize = 0;
-    while j < parts.len() {
-        let n = parts[j];
-        if left < n {
+    for (j, n) in parts.iter().enumerate() {
+        if left < *n {
             return Fit { parts: j, left };
         }
-        left -= n;
-        j += 1;
+        left -= *n;
     }
-    Fit { parts: j, left }
+    Fit {
+        parts: parts.len(),
+        left,
+    }
 }
 
 fn fit_of(s: &[u8], from: usize, end: usize, lo: usize, d: usize, k: usize, room: usize) -> Fit
@@ -77,20 +76,12 @@ fn fit_of(s: &[u8], from: usize, end: usize, lo: usize, d: usize, k: usize, room
 fn coarse(width: usize) -> usize
     ensures { result ≤ 20 }
 {
-    let mut k: usize = 0;
-    while k < 20 {
+    for k in 0..20 {
         if width >> k < 2048 {
             return k;
         }
-        k += 1;
     }
-    k
-}
-
-fn finer(k: usize) -> usize
-    ensures { (0 < k → result < k) × (result ≤ k) × (k ≤ 30 → result ≤ 20) }
-{
-    if k < 10 { 0 } else { k - 10 }
+    20
 }
 
 // A byte up to which the targets from lo on have places in the room: d where all have; else with three quarters of the room taken, or up
@@ -106,9 +97,9 @@ pub(crate) fn edge_of(s: &[u8], from: usize, end: usize, lo: usize, d: usize, ro
     let mut left = room;
     let mut k = coarse(d - lo) + 10;
     while 0 < k {
-        k = finer(k);
+        k = k.saturating_sub(10);
         let fit = fit_of(s, from, end, edge, d, k, left);
-        edge += lesser(fit.parts << k, d - edge);
+        edge += (d - edge).min(fit.parts << k);
         left = fit.left;
         if left <= room / 4 {
             return edge;

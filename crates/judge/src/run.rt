@@ -15,13 +15,6 @@ pub struct Run {
     pub end: usize,
 }
 
-// The lesser of two numbers.
-pub fn lesser(a: usize, b: usize) -> usize
-    ensures { (result ≤ a) × (result ≤ b) × (a ≤ b → result ≡ a) × (b ≤ a → result ≡ b) }
-{
-    if a < b { a } else { b }
-}
-
 // Records of the class and the size can be a run.
 fn is_run(class: u8, size: usize, d: usize) -> bool
     ensures { result ≡ true → Liking class size × (20 ≤ d) }
@@ -84,16 +77,15 @@ pub fn run_of(
 ) -> Run
     ensures { Ruled follow.now → RunIs s.now class size due d most at result }
 {
-    let mut count: usize = 0;
     let mut end = at;
     if !is_run(class, size, d) {
-        return Run { count, end };
+        return Run { count: 0, end };
     }
-    let limit = lesser(lesser(due, s.len()), d - 20);
+    let limit = due.min(s.len()).min(d - 20);
     if !is_next(s, size, at, limit) {
-        return Run { count, end };
+        return Run { count: 0, end };
     }
-    while count < most {
+    for count in 0..most {
         let next = end + size;
         if limit < next {
             return Run { count, end };
@@ -101,8 +93,7 @@ pub fn run_of(
         if !is_like(s, follow, class, size, end) {
             return Run { count, end };
         }
-        count += 1;
         end = next;
     }
-    Run { count, end }
+    Run { count: most, end }
 }

@@ -31,11 +31,10 @@ fn print_case<W: Write>(out: &mut W, case: &[u8], product: &[u8], due: &[u8]) ->
 
 // How many bytes of rows a case has.
 fn due_in(case: &[u8]) -> usize {
-    let kind = word(case, 0, 4);
-    if kind != 2 && kind != 5 {
-        return 0;
+    match word(case, 0, 4) {
+        2 | 5 => word(case, 12, 4) as usize,
+        _ => 0,
     }
-    word(case, 12, 4) as usize
 }
 
 // False at the end of the input.

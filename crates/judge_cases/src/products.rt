@@ -5,7 +5,7 @@ use calendar::Refusal;
 use cases::input::{part, word};
 use cases::print;
 use cases::print::say;
-use finish::{Finished, rows as list_rows, verdict};
+use finish::{rows as list_rows, verdict};
 use judge::arrival::{Arrival, judge_arrival};
 use level0::judge_level0;
 use std::io;
@@ -16,20 +16,12 @@ const PLACES: usize = 1024;
 
 const UNTOUCHED: u32 = 0xaaaa_aaaa;
 
-fn same_refusal(a: Refusal, b: Refusal) -> bool {
-    a.number == b.number && a.place == b.place
-}
-
 fn same(a: Arrival, b: Arrival) -> bool {
-    match a {
-        Arrival::Waiting { count, end } => match b {
-            Arrival::Waiting { count: c, end: e } => count == c && end == e,
-            Arrival::Refused(_) => false,
-        },
-        Arrival::Refused(r) => match b {
-            Arrival::Waiting { count: _, end: _ } => false,
-            Arrival::Refused(t) => same_refusal(r, t),
-        },
+    match (a, b) {
+        (Arrival::Waiting { count, end }, Arrival::Waiting { count: c, end: e }) => count == c
+            && end == e,
+        (Arrival::Refused(r), Arrival::Refused(t)) => r.number == t.number && r.place == t.place,
+        _ => false,
     }
 }
 
@@ -43,9 +35,7 @@ fn print_at<W: Write>(out: &mut W, n: usize, judged: Arrival) -> io::Result<()> 
 fn print_arrivals<W: Write>(out: &mut W, bytes: &[u8]) -> io::Result<()> {
     let mut last = judge_arrival(part(bytes, 0, 0));
     print_at(out, 0, last)?;
-    let mut n: usize = 0;
-    while n < bytes.len() {
-        n += 1;
+    for n in 1..=bytes.len() {
         let next = judge_arrival(part(bytes, 0, n));
         if !same(last, next) {
             print_at(out, n, next)?;
@@ -55,7 +45,7 @@ fn print_arrivals<W: Write>(out: &mut W, bytes: &[u8]) -> io::Result<()> {
     Ok(())
 }
 
-fn list_into(bytes: &[u8], rows: &mut [[u32; 7]], level0: bool) -> Finished {
+fn list_into(bytes: &[u8], rows: &mut [[u32; 7]], level0: bool) -> Result<usize, Refusal> {
     if level0 {
         return judge_level0(bytes, rows);
     }
@@ -63,11 +53,16 @@ fn list_into(bytes: &[u8], rows: &mut [[u32; 7]], level0: bool) -> Finished {
 }
 
 // The lister, lent the first places; where there are fewer than `room`, a refusal with 0, which no judge gives.
-fn judge_into(bytes: &[u8], rows: &mut [[u32; 7]], room: usize, level0: bool) -> Finished {
+fn judge_into(
+    bytes: &[u8],
+    rows: &mut [[u32; 7]],
+    room: usize,
+    level0: bool,
+) -> Result<usize, Refusal> {
     if room <= rows.len() {
         return list_into(bytes, &mut rows[..room], level0);
     }
-    Finished::Refused(Refusal {
+    Err(Refusal {
         number: 0,
         place: room,
     })
@@ -82,45 +77,24 @@ pub(crate) fn print_product<W: Write>(out: &mut W, number: u64, bytes: &[u8]) ->
     print_arrivals(out, bytes)
 }
 
-fn wide(x: u32) -> u64 {
-    x as u64
-}
-
 // The row at place i is the one that is due, of 28 bytes each; past these it is untouched.
 fn is_row(row: [u32; 7], due: &[u8], i: usize) -> bool {
-    let mut j: usize = 0;
-    while j < 7 {
-        let x = wide(row[j]);
+    for (j, number) in row.iter().enumerate() {
+        let x = u64::from(*number);
         if i < due.len() / 28 {
             if x != word(due, 28 * i + 4 * j, 4) {
                 return false;
             }
-        } else if x != wide(UNTOUCHED) {
+        } else if x != u64::from(UNTOUCHED) {
             return false;
         }
-        j += 1;
     }
     true
 }
 
 // So at each place, those with them that are not lent.
 fn holds(rows: &[[u32; 7]], due: &[u8]) -> bool {
-    let mut i: usize = 0;
-    while i < rows.len() {
-        if !is_row(rows[i], due, i) {
-            return false;
-        }
-        i += 1;
-    }
-    true
-}
-
-// Of n bytes of rows, how many are due: none where a product is refused.
-fn due_of(judged: Finished, n: usize) -> usize {
-    match judged {
-        Finished::Accepted { count: _ } => n,
-        Finished::Refused(_) => 0,
-    }
+    rows.iter().enumerate().all(|(i, row)| is_row(*row, due, i))
 }
 
 // The answer for this room, and `lost` where a place does not hold what is due.
@@ -142,7 +116,8 @@ fn print_room<W: Write>(
     let mut rows = [[UNTOUCHED; 7]; PLACES];
     let judged = judge_into(bytes, &mut rows, room, level0);
     answers::finished(out, judged)?;
-    if !holds(&rows, part(due, 0, due_of(judged, due.len()))) {
+    // No row is due where a product is refused.
+    if !holds(&rows, if judged.is_ok() { due } else { &[] }) {
         say(out, b"lost\n")?;
     }
     Ok(())

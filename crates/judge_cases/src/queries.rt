@@ -1,9 +1,11 @@
 // Queries of products, whole or still arriving: records by their numbers, every field by each of the four field queries, so that those of
 // another kind are refused too, and the ground points.
 use crate::answers;
+use calendar::Refusal;
 use cases::print;
 use cases::print::say;
-use query::{FieldAnswer, NumberAnswer, PointAnswer, RecordAnswer, TimeAnswer};
+use meter::general::Moment;
+use query::GroundPoint;
 use record::header::Header;
 use std::io;
 use std::io::Write;
@@ -24,8 +26,8 @@ fn print_record<W: Write>(out: &mut W, bytes: &[u8], k: usize) -> io::Result<()>
     say(out, b"record")?;
     print::number(out, k as u64)?;
     match query::record_at(bytes, k) {
-        RecordAnswer::Record { start, header } => print_header(out, start, header)?,
-        RecordAnswer::Refused(r) => print::refusal(out, r)?,
+        Ok(record) => print_header(out, record.start, record.header)?,
+        Err(r) => print::refusal(out, r)?,
     }
     say(out, b"\n")
 }
@@ -41,26 +43,26 @@ fn print_records<W: Write>(out: &mut W, bytes: &[u8], asked: usize) -> io::Resul
 fn print_number_field<W: Write>(out: &mut W, bytes: &[u8], k: usize) -> io::Result<()> {
     say(out, b" number")?;
     match query::number_field(bytes, k) {
-        NumberAnswer::Number(n) => answers::integer(out, n),
-        NumberAnswer::Refused(r) => print::refusal(out, r),
+        Ok(n) => answers::integer(out, n),
+        Err(r) => print::refusal(out, r),
     }
 }
 
-fn print_time<W: Write>(out: &mut W, answer: TimeAnswer) -> io::Result<()> {
+fn print_time<W: Write>(out: &mut W, answer: Result<Option<Moment>, Refusal>) -> io::Result<()> {
     match answer {
-        TimeAnswer::Time(t) => answers::time(out, t),
-        TimeAnswer::Refused(r) => print::refusal(out, r),
+        Ok(t) => answers::time(out, t),
+        Err(r) => print::refusal(out, r),
     }
 }
 
 fn print_text_field<W: Write>(out: &mut W, bytes: &[u8], k: usize) -> io::Result<()> {
     say(out, b" text")?;
     match query::text_field(bytes, k) {
-        FieldAnswer::Part { start, width } => {
-            print::number(out, start as u64)?;
-            print::number(out, width as u64)
+        Ok(part) => {
+            print::number(out, part.start as u64)?;
+            print::number(out, part.width as u64)
         }
-        FieldAnswer::Refused(r) => print::refusal(out, r),
+        Err(r) => print::refusal(out, r),
     }
 }
 
@@ -98,15 +100,18 @@ pub(crate) fn print_queries<W: Write>(
     print_fields(out, bytes)
 }
 
-fn print_answer<W: Write>(out: &mut W, answer: PointAnswer) -> io::Result<()> {
+fn print_answer<W: Write>(
+    out: &mut W,
+    answer: Result<Option<GroundPoint>, Refusal>,
+) -> io::Result<()> {
     match answer {
-        PointAnswer::Point(p) => {
+        Ok(Some(p)) => {
             say(out, b" point")?;
             print::float(out, p.latitude)?;
             print::float(out, p.longitude)?;
         }
-        PointAnswer::Missing => say(out, b" missing")?,
-        PointAnswer::Refused(r) => print::refusal(out, r)?,
+        Ok(None) => say(out, b" missing")?,
+        Err(r) => print::refusal(out, r)?,
     }
     say(out, b"\n")
 }

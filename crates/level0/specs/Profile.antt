@@ -6,7 +6,8 @@ use Rattle.judge.specs.Table.{class_at}
 use Rattle.judge.specs.Profile.{is_allowed}
 use Rattle.finish.specs.Rows.{group_at, subclass_at, version_at}
 use Rattle.finish.specs.Finish.{RowsBy}
-use Rattle.finish.specs.declared.Finished.{Finished}
+use Rattle.std.specs.declared.result.Result.{Result}
+use Rattle.calendar.specs.declared.Refusal.{Refusal}
 
 -- 002, Table 45: "RECORD_CLASS VIADR, INSTRUMENT_GROUP GENERIC, RECORD_SUBCLASS 0", and Table 48: VIADR-L0-OBT2UTC has versions 1 and 2.
 -- Table 46: "RECORD_CLASS MDR, INSTRUMENT_GROUP GENERIC, RECORD_SUBCLASS See Table 47", which has 0 to 4, and Table 48: MDR-L0 has version 1.
@@ -19,7 +20,7 @@ level0 =
     ∷ []
 
 -- what is right to say of a finished product of Level 0, and the rows at exit
-abbrev pub Level0Is : List ℕ → List (List ℕ) → Finished → List (List ℕ) → Type 0
+abbrev pub Level0Is : List ℕ → List (List ℕ) → Result ℕ Refusal → List (List ℕ) → Type 0
 Level0Is a rows r rows' = RowsBy level0 a rows r rows'
 
 -- THE SAME IN WORDS, of the record at byte i

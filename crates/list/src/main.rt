@@ -3,11 +3,9 @@
 // written `main` ends with the error.
 #![tactic(auto)]
 
-ghost use Rattle.std.specs.Prelude.{length};
-ghost use Rattle.list.specs.Reading.{ReadIs};
+ghost use Rattle.std.specs.Prelude.{◌≤◌, length, IfOk};
 
 use calendar::Refusal;
-use listing::Listed;
 use std::fs::File;
 use std::io::{Read, Write};
 use std::rt::Files;
@@ -23,28 +21,19 @@ product of any size there is ./warpladle list FILE, and for programs libwarpladl
 whose wl_rows gives these numbers of each record.\n\
 README.md has the numbers, the places, the classes and the groups.\n";
 
-#[derive(Drop)]
-pub enum Input {
-    Bytes(usize),
-    Failed(io::Error),
-}
-
 // Reads until the bytes are full or the input ends.
-fn read_input<F: Read>(input: &mut F, bytes: &mut [u8]) -> Input
-    ensures { ReadIs result (length bytes.new) }
+fn read_input<F: Read>(input: &mut F, bytes: &mut [u8]) -> io::Result<usize>
+    ensures { IfOk result (λ n. n ≤ length bytes.new) }
 {
     let mut done: usize = 0;
     while done < bytes.len() {
-        let more = match input.read(&mut bytes[done..]) {
-            Ok(n) => n,
-            Err(e) => return Input::Failed(e),
-        };
+        let more = input.read(&mut bytes[done..])?;
         if more == 0 {
-            return Input::Bytes(done);
+            return Ok(done);
         }
         done += more;
     }
-    Input::Bytes(done)
+    Ok(done)
 }
 
 // A line of what failed and why, without the system's number behind the reason.
@@ -57,27 +46,27 @@ fn fail<R: Eprint + Alloc>(rt: &R, what: &str, e: io::Error) -> io::Result<()> {
 }
 
 fn print<R: Print + Eprint + Alloc>(rt: &R, bytes: &[u8]) -> io::Result<()> {
-    match io::writer(rt).write_all(bytes) {
-        Ok(()) => Ok(()),
-        Err(e) => fail(rt, "list: standard output", e),
+    if let Err(e) = io::writer(rt).write_all(bytes) {
+        return fail(rt, "list: standard output", e);
     }
+    Ok(())
 }
 
 // The room is enough for each refusal (listing's law `line_enough`).
 fn print_refusal<R: Print + Eprint + Alloc>(rt: &R, r: Refusal) -> io::Result<()> {
     let mut room = [0u8; 64];
-    match listing::refusal_line(r, &mut room) {
-        Listed::Bytes(n) => print(rt, &room[..n]),
-        Listed::Refused(_) => Ok(()),
+    if let Ok(n) = listing::refusal_line(r, &mut room) {
+        return print(rt, &room[..n]);
     }
+    Ok(())
 }
 
 // The room is enough for each product that is listed (listing's law `never_18`).
 fn print_list<R: Print + Eprint + Alloc>(rt: &R, bytes: &[u8]) -> io::Result<()> {
     let mut room = [0u8; 131072];
     match listing::list_product(bytes, &mut room) {
-        Listed::Bytes(n) => print(rt, &room[..n]),
-        Listed::Refused(r) => print_refusal(rt, r),
+        Ok(n) => print(rt, &room[..n]),
+        Err(r) => print_refusal(rt, r),
     }
 }
 
@@ -89,8 +78,8 @@ fn list_input<R: Print + Eprint + Alloc, F: Read>(
 ) -> io::Result<()> {
     let mut bytes = [0u8; 65537];
     match read_input(input, &mut bytes) {
-        Input::Bytes(n) => print_list(rt, &bytes[..n]),
-        Input::Failed(e) => fail(rt, name, e),
+        Ok(n) => print_list(rt, &bytes[..n]),
+        Err(e) => fail(rt, name, e),
     }
 }
 
@@ -102,18 +91,7 @@ fn list_file<R: Files + Print + Eprint + Alloc>(rt: &R, name: &str) -> io::Resul
 }
 
 fn is_help(word: &[u8]) -> bool {
-    let help = b"--help";
-    if word.len() != 6 {
-        return false;
-    }
-    let mut i: usize = 0;
-    while i < 6 {
-        if word[i] != help[i] {
-            return false;
-        }
-        i += 1;
-    }
-    true
+    word == b"--help".as_slice()
 }
 
 fn main(rt: HostRuntime) -> io::Result<()> {

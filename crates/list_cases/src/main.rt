@@ -6,7 +6,6 @@
 use calendar::Refusal;
 use cases::input::{fitting, part, read, read_part, word};
 use cases::print::{number, say};
-use listing::Listed;
 use std::io;
 use std::io::{Read, Write};
 
@@ -14,14 +13,7 @@ const FILL: u8 = 0xaa;
 
 // The room from n on is as it came.
 fn is_kept(room: &[u8], n: usize) -> bool {
-    let mut i = n;
-    while i < room.len() {
-        if room[i] != FILL {
-            return false;
-        }
-        i += 1;
-    }
-    true
+    room.iter().skip(n).all(|b| *b == FILL)
 }
 
 // The n bytes at the room's start, where the others are kept.
@@ -40,8 +32,8 @@ fn print_refusal<W: Write>(out: &mut W, r: Refusal, room: &mut [u8]) -> io::Resu
         say(out, b"lost\n")?;
     }
     match listing::refusal_line(r, room) {
-        Listed::Bytes(n) => print_part(out, room, n),
-        Listed::Refused(q) => {
+        Ok(n) => print_part(out, room, n),
+        Err(q) => {
             say(out, b"no room for a line:")?;
             number(out, q.place as u64)?;
             say(out, b"\n")?;
@@ -52,8 +44,8 @@ fn print_refusal<W: Write>(out: &mut W, r: Refusal, room: &mut [u8]) -> io::Resu
 
 fn list_into<W: Write>(out: &mut W, bytes: &[u8], room: &mut [u8]) -> io::Result<()> {
     match listing::list_product(bytes, room) {
-        Listed::Bytes(n) => print_part(out, room, n),
-        Listed::Refused(r) => print_refusal(out, r, room),
+        Ok(n) => print_part(out, room, n),
+        Err(r) => print_refusal(out, r, room),
     }
 }
 

@@ -1,12 +1,13 @@
 -- A column, written from its last byte to its first: the digits that are left, put into the room as it is, give the whole. Assumes nothing.
 use Prim.Native.Nat.{ℕ, ◌+◌, ◌-◌, ◌/◌, ◌%◌, ◌≤◌, ◌<◌}
+use native.Mathlib.Decide.{dec_lt}
 use native.Mathlib.Omega.{arith}
 use mathlib.Core.Path.{◌≡◌, refl, sym, ap, ◌∙◌}
 use mathlib.Core.List.{List, [], ◌∷◌}
 use lib.ListN.{length, set, length-set, length-append}
 use lib.Seq.{sets}
 use Rattle.listing.specs.Decimal.{decimal, column, Puts}
-use Rattle.listing.proofs.DecimalLaws.{decimal_one, decimal_more, length_some}
+use Rattle.listing.proofs.DecimalLaws.{decimal_one, decimal_more, length_more, length_some}
 use Rattle.listing.specs.Listing.{row}
 use Rattle.listing.proofs.StoreLaws.{sets_snoc, puts_length}
 
@@ -31,8 +32,19 @@ writing_first room at v b i e h = record {
 }
 
 module _ {room₀ : List ℕ} {at v : ℕ} {room : List ℕ} {i rest : ℕ} (w : Writing room₀ at v room i rest) where
-  pub some_left : at < i
-  some_left = omega (arith, w.place, length_some rest)
+  pub more_left : at + 1 < i → 9 < rest
+  more_left h = go (dec_lt rest 10)
+    where
+      go : Dec (rest < 10) → 9 < rest
+      go (yes u) = absurd (omega (arith, w.place, ap length (decimal_one rest u)))
+      go (no u) = omega (arith, u)
+
+  pub one_left : i ≤ at + 1 → rest ≤ 9
+  one_left h = go (dec_lt rest 10)
+    where
+      go : Dec (rest < 10) → rest ≤ 9
+      go (yes u) = omega (arith, u)
+      go (no u) = absurd (omega (arith, w.place, length_more rest (omega (arith, u)), length_some (rest / 10)))
 
   pub writing_next : 9 < rest → Writing room₀ at v (set room (i - 1) (48 + rest % 10)) (i - 1) (rest / 10)
   writing_next h =

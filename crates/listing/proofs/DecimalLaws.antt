@@ -46,7 +46,7 @@ spelt P one more (suc k) v h = go (dec_lt v 10) (λ u. spelt P one more k (v / 1
     go (no u) r = let b : 10 ≤ v = omega (arith, u) in rw (decimal_more v b) (more v b (r b))
 
 -- ---- how many digits there are
-length_more : (v : ℕ) → 10 ≤ v → length (decimal v) ≡ length (decimal (v / 10)) + 1
+pub length_more : (v : ℕ) → 10 ≤ v → length (decimal v) ≡ length (decimal (v / 10)) + 1
 length_more v h = ap length (decimal_more v h) ∙ simp length-append
 
 pub length_next : (v n m : ℕ) → 10 ≤ v → n + length (decimal v) ≡ m → n + 1 + length (decimal (v / 10)) ≡ m

@@ -16,8 +16,8 @@ use Rattle.demands.proofs.Prefix.{unique_given}
 use Rattle.demands.proofs.Accepted.{covers, complete_is_product}
 use Rattle.listing.specs.Decimal.{column}
 use Rattle.listing.specs.Listing.{lines, listing, Wrote, Lists, NoList, too_large, faulty, short, no_room, ListedIs, LineIs}
-use Rattle.listing.specs.declared.Listed.{Listed}
-use Rattle.listing.specs.declared.Listed.TheVariants as L
+use Rattle.std.specs.declared.result.Result.TheVariants.{Ok, Err}
+use Rattle.std.specs.declared.result.Result.{Result}
 
 pub one_listing : {a : List ℕ} {c d : ℕ} → Complete a → (v : Covered a c) (w : Covered a d) → listing v ≡ listing w
 one_listing {a} {c} {d} k v w =
@@ -57,18 +57,18 @@ one_refusal (no_room h k v r) (faulty l g) = absurd (not_clean g k.clean)
 one_refusal (no_room h k v r) (short l c s) = absurd (⊎_elim (λ z. omega (arith, k.header)) (λ z. omega (arith, k.come)) s)
 one_refusal (no_room h k v r) (no_room l j w t) = (refl, ap length (one_listing k v w))
 
-pub unique_list : (a room : List ℕ) (r s : Listed) (x y : List ℕ) → ListedIs a room r x → ListedIs a room s y → (r ≡ s) × (x ≡ y)
-unique_list a room (L.Bytes n) (L.Bytes m) x y f g =
+pub unique_list : (a room : List ℕ) (r s : Result ℕ Refusal) (x y : List ℕ) → ListedIs a room r x → ListedIs a room s y → (r ≡ s) × (x ≡ y)
+unique_list a room (Ok n) (Ok m) x y f g =
     let e = one_wrote f.wrote (wrote_at (one_listing f.complete g.covered f.covered) g.wrote) in
-    (ap L.Bytes e.0, e.1)
-unique_list a room (L.Bytes n) (L.Refused s) x y f g = absurd (not_both f g.0)
-unique_list a room (L.Refused r) (L.Bytes m) x y f g = absurd (not_both g f.0)
-unique_list a room (L.Refused r) (L.Refused s) x y f g =
+    (ap Ok e.0, e.1)
+unique_list a room (Ok n) (Err s) x y f g = absurd (not_both f g.0)
+unique_list a room (Err r) (Ok m) x y f g = absurd (not_both g f.0)
+unique_list a room (Err r) (Err s) x y f g =
     let e = one_refusal f.0 g.0 in
-    (ap L.Refused (same_refusal r s e.0 e.1), f.1 ∙ sym g.1)
+    (ap Err (same_refusal r s e.0 e.1), f.1 ∙ sym g.1)
 
-pub unique_refusal_line : (x : Refusal) (room : List ℕ) (r s : Listed) (p q : List ℕ) → LineIs x room r p → LineIs x room s q → (r ≡ s) × (p ≡ q)
-unique_refusal_line x room (L.Bytes n) (L.Bytes m) p q f g = let e = one_wrote f g in (ap L.Bytes e.0, e.1)
-unique_refusal_line x room (L.Bytes n) (L.Refused s) p q f g = absurd (omega (arith, f.bytes, f.fits, g.over))
-unique_refusal_line x room (L.Refused r) (L.Bytes m) p q f g = absurd (omega (arith, g.bytes, g.fits, f.over))
-unique_refusal_line x room (L.Refused r) (L.Refused s) p q f g = (ap L.Refused (f.needed ∙ sym g.needed), f.kept ∙ sym g.kept)
+pub unique_refusal_line : (x : Refusal) (room : List ℕ) (r s : Result ℕ Refusal) (p q : List ℕ) → LineIs x room r p → LineIs x room s q → (r ≡ s) × (p ≡ q)
+unique_refusal_line x room (Ok n) (Ok m) p q f g = let e = one_wrote f g in (ap Ok e.0, e.1)
+unique_refusal_line x room (Ok n) (Err s) p q f g = absurd (omega (arith, f.bytes, f.fits, g.over))
+unique_refusal_line x room (Err r) (Ok m) p q f g = absurd (omega (arith, g.bytes, g.fits, f.over))
+unique_refusal_line x room (Err r) (Err s) p q f g = (ap Err (f.needed ∙ sym g.needed), f.kept ∙ sym g.kept)

@@ -7,8 +7,8 @@ use lib.ListN.{length, length-append}
 use Rattle.calendar.specs.declared.Refusal.{Refusal}
 use Rattle.calendar.specs.Said.{refusing}
 use Rattle.listing.specs.Decimal.{decimal, column, Puts}
-use Rattle.listing.specs.Listing.{refusal_line, LineIs, refused_with}
-use Rattle.listing.specs.declared.Listed.{Listed}
+use Rattle.listing.specs.Listing.{refusal_line, LineIs}
+use Rattle.std.specs.declared.result.Result.{Result}
 use Rattle.listing.proofs.ColumnLaws.{column_length}
 use Rattle.listing.proofs.WalkLaws.{width_at}
 
@@ -18,6 +18,3 @@ line_bytes x e f g =
 
 pub head_at : (word : List ℕ) (b : ℕ) {room exit : List ℕ} {i r x v : ℕ} → x ≡ v → Puts room i (word ++ column x b) r exit → Puts room i (word ++ column v b) r exit
 head_at word b e f = rw e at f
-
-pub line_refused : (x : Refusal) (room : List ℕ) {r : Listed} {n : ℕ} → r ≡ refused_with 18 n → n ≡ length (refusal_line x) → length room < n → LineIs x room r room
-line_refused x room e f h = rw e (record { needed = ap (refusing 18) f; over = omega (arith, f); kept = refl })

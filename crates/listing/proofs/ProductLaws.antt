@@ -4,12 +4,10 @@ use native.Mathlib.Omega.{arith}
 use mathlib.Core.Path.{◌≡◌, refl}
 use mathlib.Core.List.{List}
 use lib.ListN.{length}
-use Rattle.listing.specs.Listing.{listing, Lists, NoList, no_room, ListedIs, Listable, Needs, Full, refused_with}
-use Rattle.listing.specs.declared.Listed.{Listed}
+use Rattle.listing.specs.Listing.{listing, Lists, NoList, no_room, ListedIs, Listable, Needs, Full}
+use Rattle.std.specs.declared.result.Result.{Result}
+use Rattle.calendar.specs.declared.Refusal.{Refusal}
 use Rattle.listing.proofs.StoreLaws.{puts_wrote}
-
-pub refused_list : (a room : List ℕ) {n p : ℕ} {r : Listed} → r ≡ refused_with n p → NoList a room n p → ListedIs a room r room
-refused_list a room e q = rw e (q, refl)
 
 pub small_room : {a room : List ℕ} {c n : ℕ} → Listable a c → Needs a c n → length room < n → NoList a room 18 n
 small_room {a} {room} q f h =

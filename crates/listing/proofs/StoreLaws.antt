@@ -13,8 +13,8 @@ use Rattle.text.proofs.Laws.{text_wide}
 use Rattle.listing.specs.Decimal.{Puts}
 use Rattle.calendar.specs.declared.Refusal.{Refusal}
 use Rattle.listing.specs.Listing.{Wrote, ListedIs, LineIs}
-use Rattle.listing.specs.declared.Listed.{Listed}
-use Rattle.listing.specs.declared.Listed.TheVariants as L
+use Rattle.std.specs.declared.result.Result.TheVariants.{Ok}
+use Rattle.std.specs.declared.result.Result.{Result}
 
 pub sets_append : (room : List ℕ) (i : ℕ) (x y : List ℕ) → sets room i (x ++ y) ≡ sets (sets room i x) (i + length x) y
 sets_append room i [] y = ap (λ (k : ℕ). sets room k y) (omega arith)
@@ -67,8 +67,8 @@ puts_wrote {room} {exit} {text} {n} f e h = record {
 wrote_inside : {room exit text : List ℕ} {n : ℕ} → Wrote room text n exit → n ≤ length exit
 wrote_inside {room} {exit} {text} {n} w = omega (arith, w.bytes, ap length w.text_is, length-append text (drop n room))
 
-pub line_inside : (x : Refusal) (room exit : List ℕ) {r : Listed} {n : ℕ} → r ≡ L.Bytes n → LineIs x room r exit → n ≤ length exit
-line_inside x room exit {r} {n} e f = let w : LineIs x room (L.Bytes n) exit = rw e at f in wrote_inside w
+pub line_inside : (x : Refusal) (room exit : List ℕ) {r : Result ℕ Refusal} {n : ℕ} → r ≡ Ok n → LineIs x room r exit → n ≤ length exit
+line_inside x room exit {r} {n} e f = let w : LineIs x room (Ok n) exit = rw e at f in wrote_inside w
 
-pub list_inside : (a room exit : List ℕ) {r : Listed} {n : ℕ} → r ≡ L.Bytes n → ListedIs a room r exit → n ≤ length exit
-list_inside a room exit {r} {n} e f = let w : ListedIs a room (L.Bytes n) exit = rw e at f in wrote_inside w.wrote
+pub list_inside : (a room exit : List ℕ) {r : Result ℕ Refusal} {n : ℕ} → r ≡ Ok n → ListedIs a room r exit → n ≤ length exit
+list_inside a room exit {r} {n} e f = let w : ListedIs a room (Ok n) exit = rw e at f in wrote_inside w.wrote

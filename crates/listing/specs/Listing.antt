@@ -10,8 +10,8 @@ use Rattle.judge.specs.Table.{size_at, Clean, Given}
 use Rattle.judge.specs.Extent.{Short, Complete, Covered}
 use Rattle.finish.specs.Finish.{starts}
 use Rattle.listing.specs.Decimal.{column}
-use Rattle.listing.specs.declared.Listed.{Listed}
-use Rattle.listing.specs.declared.Listed.TheVariants as L
+use Rattle.std.specs.declared.result.Result.TheVariants.{Ok, Err}
+use Rattle.std.specs.declared.result.Result.{Result}
 
 -- numbers in columns: one space between, a line feed at the end
 abbrev pub row : List ℕ → List ℕ
@@ -61,9 +61,9 @@ pub data NoList (a room : List ℕ) : ℕ → ℕ → Type 0 where
   no_room : {c : ℕ} → length a ≤ 65536 → Complete a → (v : Covered a c) → length room < length (listing v) → NoList a room 18 (length (listing v))
 
 -- what is right to say of a product, and to write; a refusal keeps all of the room
-abbrev pub ListedIs : List ℕ → List ℕ → Listed → List ℕ → Type 0
-ListedIs a room (L.Bytes n) exit = Lists a room n exit
-ListedIs a room (L.Refused r) exit = NoList a room r.number r.place × (exit ≡ room)
+abbrev pub ListedIs : List ℕ → List ℕ → Result ℕ Refusal → List ℕ → Type 0
+ListedIs a room (Ok n) exit = Lists a room n exit
+ListedIs a room (Err r) exit = NoList a room r.number r.place × (exit ≡ room)
 
 -- ---- THE LINE OF A REFUSAL
 pub record NoLine (room text : List ℕ) (r : Refusal) (exit : List ℕ) : Type 0 where
@@ -71,9 +71,9 @@ pub record NoLine (room text : List ℕ) (r : Refusal) (exit : List ℕ) : Type 
   pub over : length room < length text
   pub kept : exit ≡ room
 
-abbrev pub LineIs : Refusal → List ℕ → Listed → List ℕ → Type 0
-LineIs x room (L.Bytes n) exit = Wrote room (refusal_line x) n exit
-LineIs x room (L.Refused r) exit = NoLine room (refusal_line x) r exit
+abbrev pub LineIs : Refusal → List ℕ → Result ℕ Refusal → List ℕ → Type 0
+LineIs x room (Ok n) exit = Wrote room (refusal_line x) n exit
+LineIs x room (Err r) exit = NoLine room (refusal_line x) r exit
 
 -- ---- what the functions behind them ask and answer
 -- a product that is to be listed
@@ -93,6 +93,3 @@ pub record Roomy (a : List ℕ) (c : ℕ) (room : List ℕ) : Type 0 where
 
 abbrev pub Full : List ℕ → ℕ → List ℕ → List ℕ → Type 0
 Full a c room exit = (v : Covered a c) → exit ≡ sets room 0 (listing v)
-
-abbrev pub refused_with : ℕ → ℕ → Listed
-refused_with n p = L.Refused (refusing n p)

@@ -4,25 +4,13 @@
 ghost use Rattle.std.specs.Prelude.{◌≡◌, true, ◌++◌, ◌+◌, ◌≤◌, ◌<◌, length};
 ghost use Rattle.text.specs.Writing.{fits_text};
 ghost use Rattle.listing.specs.Decimal.{decimal, column, Puts};
-ghost use Rattle.listing.specs.Listing.{line, Listable, Needs, Roomy, Full, ListedIs, LineIs, refused_with};
+ghost use Rattle.listing.specs.Listing.{line, Listable, Needs, Roomy, Full, ListedIs, LineIs};
 
-use calendar::Refusal;
-use judge::arrival::{Extent, judge_extent};
+use calendar::{Refusal, fault};
+use judge::arrival::judge_extent;
 use record::header::size_at;
 
-#[derive(Clone, Copy)]
-pub enum Listed {
-    Bytes(usize),
-    Refused(Refusal),
-}
-
 const MOST: usize = 65_536;
-
-fn wide(b: u8) -> usize
-    ensures { result ≡ b }
-{
-    b as usize
-}
 
 // How many digits v has.
 fn places(v: usize) -> usize
@@ -30,6 +18,7 @@ fn places(v: usize) -> usize
 {
     let mut n: usize = 1;
     let mut rest = v;
+    // By tens: how many turns there are is what is asked.
     while 9 < rest {
         rest = rest / 10;
         n += 1;
@@ -44,10 +33,8 @@ fn put_column(room: &mut [u8], at: usize, v: usize, end: u8) -> usize
 {
     let to = at + places(v);
     room[to] = end;
-    let mut i = to;
     let mut rest = v;
-    while 9 < rest {
-        i -= 1;
+    for i in (at + 1..to).rev() {
         room[i] = 48 + (rest % 10) as u8;
         rest = rest / 10;
     }
@@ -60,8 +47,10 @@ fn line_width(s: &[u8], at: usize) -> usize
     requires { at + 8 ≤ length s.now }
     ensures { (result ≡ length (line s.now at)) × (result ≤ 126) }
 {
-    let kind = places(wide(s[at])) + places(wide(s[at + 1])) + places(wide(s[at + 2]));
-    places(at) + kind + places(wide(s[at + 3])) + places(size_at(s, at)) + 6
+    let kind = places(usize::from(s[at]))
+        + places(usize::from(s[at + 1]))
+        + places(usize::from(s[at + 2]));
+    places(at) + kind + places(usize::from(s[at + 3])) + places(size_at(s, at)) + 6
 }
 
 // The line of the record at `at`, from p on.
@@ -70,10 +59,10 @@ fn put_line(s: &[u8], at: usize, room: &mut [u8], p: usize) -> usize
     ensures { Puts room.old p (line s.now at) result room.new }
 {
     let class = put_column(room, p, at, b' ');
-    let group = put_column(room, class, wide(s[at]), b' ');
-    let subclass = put_column(room, group, wide(s[at + 1]), b' ');
-    let version = put_column(room, subclass, wide(s[at + 2]), b' ');
-    let size = put_column(room, version, wide(s[at + 3]), b' ');
+    let group = put_column(room, class, usize::from(s[at]), b' ');
+    let subclass = put_column(room, group, usize::from(s[at + 1]), b' ');
+    let version = put_column(room, subclass, usize::from(s[at + 2]), b' ');
+    let size = put_column(room, version, usize::from(s[at + 3]), b' ');
     put_column(room, size, size_at(s, at), b'\n')
 }
 
@@ -82,7 +71,7 @@ fn put_head(room: &mut [u8], word: &[u8], v: usize, end: u8) -> usize
     requires { (fits_text 8 word.now ≡ true) × (8 + length (column v end) ≤ length room.old) }
     ensures { Puts room.old 0 (word.now ++ column v end) result room.new }
 {
-    text::write_text(room, 8, word);
+    let _ = text::write_text(room, 8, word);
     put_column(room, 8, v, end)
 }
 
@@ -113,49 +102,54 @@ fn put_list(s: &[u8], count: usize, room: &mut [u8])
     }
 }
 
-fn refused(number: u8, place: usize) -> Listed
-    ensures { result ≡ refused_with number place }
-{
-    Listed::Refused(Refusal { number, place })
-}
-
 // The listing of a product that is complete.
-fn list_complete(s: &[u8], count: usize, room: &mut [u8]) -> Listed
+fn list_complete(s: &[u8], count: usize, room: &mut [u8]) -> Result<usize, Refusal>
     requires { Listable s.now count }
     ensures { ListedIs s.now room.old result room.new }
 {
     let n = needed(s, count);
     if room.len() < n {
-        return refused(18, n);
+        return Err(Refusal {
+            number: fault::ROOM,
+            place: n,
+        });
     }
     put_list(s, count, room);
-    Listed::Bytes(n)
+    Ok(n)
 }
 
 // The listing of a product at the start of the room.
-pub fn list_product(bytes: &[u8], room: &mut [u8]) -> Listed
+pub fn list_product(bytes: &[u8], room: &mut [u8]) -> Result<usize, Refusal>
     ensures { ListedIs bytes.now room.old result room.new }
 {
     if MOST < bytes.len() {
-        return refused(23, MOST);
+        return Err(Refusal {
+            number: fault::LISTING_LIMIT,
+            place: MOST,
+        });
     }
-    match judge_extent(bytes) {
-        Extent::Refused(r) => Listed::Refused(r),
-        Extent::Part => refused(17, bytes.len()),
-        Extent::Entire { count } => list_complete(bytes, count, room),
-    }
+    let Some(count) = judge_extent(bytes)? else {
+        return Err(Refusal {
+            number: fault::UNFINISHED,
+            place: bytes.len(),
+        });
+    };
+    list_complete(bytes, count, room)
 }
 
 // The line of a refusal at the start of the room.
-pub fn refusal_line(refusal: Refusal, room: &mut [u8]) -> Listed
+pub fn refusal_line(refusal: Refusal, room: &mut [u8]) -> Result<usize, Refusal>
     ensures { LineIs refusal room.old result room.new }
 {
-    let number = wide(refusal.number);
+    let number = usize::from(refusal.number);
     let n = 10 + places(number) + places(refusal.place);
     if room.len() < n {
-        return refused(18, n);
+        return Err(Refusal {
+            number: fault::ROOM,
+            place: n,
+        });
     }
     let p = put_head(room, b"refused ", number, b' ');
     put_column(room, p, refusal.place, b'\n');
-    Listed::Bytes(n)
+    Ok(n)
 }

@@ -13,11 +13,11 @@ use Rattle.calendar.specs.Said.{Said, answer, refusal, refused}
 use Rattle.calendar.specs.declared.Refusal.{Refusal}
 use Rattle.calendar.specs.Calendar.{is_date, days_to, has_day, day_number_of}
 use Rattle.meter.specs.Lent.{inside, writes, wrote}
+use Rattle.std.specs.declared.option.Option.TheVariants.{Some, None}
+use Rattle.std.specs.declared.option.Option.{Option}
 use Rattle.meter.specs.declared.time.Time.{Time}
-use Rattle.meter.specs.declared.time.Time.TheVariants as T
+use Rattle.meter.specs.Instant as T
 use Rattle.meter.specs.declared.general.Moment.{Moment}
-use Rattle.meter.specs.declared.general.General.{General}
-use Rattle.meter.specs.declared.general.General.TheVariants as G
 use Rattle.meter.specs.General.{digits_of, number_of, each, is_none, is_digits, moment_at, last_second, is_moment, is_general, general_at, general_read_at, put_digits, put_moment, put_none, put_general, fits_general, milli_of, time_of_general, time_of_moment, has_time, text_time_at}
 use Rattle.meter.proofs.GeneralRuns.{and_true, each_in, digits_number}
 
@@ -43,7 +43,7 @@ unfolding is_moment
 moment_last t l d h m e s = rw (d, le-leb t.hour 23 h, le-leb t.minute 59 m, ← e, le-leb t.second l s)
 
 -- ---- fits_general
-module _ (long : Bool) (time : General) (t : Moment) (e : time ≡ G.At t) where
+module _ (long : Bool) (time : Option Moment) (t : Moment) (e : time ≡ Some t) where
   pub fits_no : is_moment t ≡ false → false ≡ fits_general long time
   fits_no m = rw (e, m)
 
@@ -58,7 +58,7 @@ module _ (long : Bool) (a : List ℕ) (at n : ℕ) (en : n ≡ digits_of long) w
   pub read_short : leb (at + (n + 1)) (length a) ≡ false → refusal 20 (length a) ≡ general_read_at long a at
   read_short h = rw (← en, h)
 
-  pub read_none : leb (at + (n + 1)) (length a) ≡ true → is_none n a at ≡ true → answer G.Undefined ≡ general_read_at long a at
+  pub read_none : leb (at + (n + 1)) (length a) ≡ true → is_none n a at ≡ true → answer None ≡ general_read_at long a at
   read_none h x = rw (← en, h, x)
 
   pub read_no_digits : leb (at + (n + 1)) (length a) ≡ true → is_none n a at ≡ false → is_digits n a at ≡ false → refusal 21 0 ≡ general_read_at long a at
@@ -67,20 +67,20 @@ module _ (long : Bool) (a : List ℕ) (at n : ℕ) (en : n ≡ digits_of long) w
   pub read_no_moment : leb (at + (n + 1)) (length a) ≡ true → is_none n a at ≡ false → is_digits n a at ≡ true → (t : Moment) → t ≡ moment_at n a at → is_moment t ≡ false → refusal 21 0 ≡ general_read_at long a at
   read_no_moment h x d t e m = rw (← en, h, x, d, ← e, m)
 
-  pub read_moment : leb (at + (n + 1)) (length a) ≡ true → is_none n a at ≡ false → is_digits n a at ≡ true → (t : Moment) → t ≡ moment_at n a at → is_moment t ≡ true → answer (G.At t) ≡ general_read_at long a at
+  pub read_moment : leb (at + (n + 1)) (length a) ≡ true → is_none n a at ≡ false → is_digits n a at ≡ true → (t : Moment) → t ≡ moment_at n a at → is_moment t ≡ true → answer (Some t) ≡ general_read_at long a at
   read_moment h x d t e m = rw (← en, h, x, d, ← e, m)
 
 -- ---- time_of and text_time: what read_general and day_number said, handed on
 moved : {A B : Type 0} (n p m q : ℕ) → ◌≡◌ {A = Said A} (refusal n p) (refusal m q) → ◌≡◌ {A = Said B} (refusal n p) (refusal m q)
 moved n p m q e = let u : n ≡ m = cc in let v : p ≡ q = cc in rw (u, v)
 
-module _ (len : ℕ) (g : General) where
+module _ (len : ℕ) (g : Option Moment) where
   pub on_refused : (i b : Bool) (x : Refusal) → refused x ≡ cond i (cond b (answer g) (refusal 21 0)) (refusal 20 len) → refused x ≡ cond i (cond (b && has_time g) (answer (time_of_general g)) (refusal 21 0)) (refusal 20 len)
   on_refused true true x e = let z : ◌≡◌ {A = ℕ} 0 1 = cc in absurd (omega arith)
   on_refused true false x e = moved x.number x.place 21 0 e
   on_refused false b x e = moved x.number x.place 20 len e
 
-  pub on_answer : (i b : Bool) (h : General) → answer h ≡ cond i (cond b (answer g) (refusal 21 0)) (refusal 20 len) → cond (has_time h) (answer (time_of_general h)) (refusal 21 0) ≡ cond i (cond (b && has_time g) (answer (time_of_general g)) (refusal 21 0)) (refusal 20 len)
+  pub on_answer : (i b : Bool) (h : Option Moment) → answer h ≡ cond i (cond b (answer g) (refusal 21 0)) (refusal 20 len) → cond (has_time h) (answer (time_of_general h)) (refusal 21 0) ≡ cond i (cond (b && has_time g) (answer (time_of_general g)) (refusal 21 0)) (refusal 20 len)
   on_answer true true h e = let q : h ≡ g = cc in rw q
   on_answer true false h e = let z : ◌≡◌ {A = ℕ} 0 1 = cc in absurd (omega arith)
   on_answer false b h e = let z : ◌≡◌ {A = ℕ} 0 1 = cc in absurd (omega arith)
@@ -88,10 +88,10 @@ module _ (len : ℕ) (g : General) where
 pub text_refused : (a : List ℕ) (at : ℕ) (x : Refusal) → refused x ≡ general_read_at true a at → refused x ≡ text_time_at a at
 text_refused a at x e = on_refused (length a) (general_at 17 a at) (inside a at 18) (is_general 17 a at) x e
 
-pub text_answer : (a : List ℕ) (at : ℕ) (h : General) → answer h ≡ general_read_at true a at → cond (has_time h) (answer (time_of_general h)) (refusal 21 0) ≡ text_time_at a at
+pub text_answer : (a : List ℕ) (at : ℕ) (h : Option Moment) → answer h ≡ general_read_at true a at → cond (has_time h) (answer (time_of_general h)) (refusal 21 0) ≡ text_time_at a at
 text_answer a at h e = on_answer (length a) (general_at 17 a at) (inside a at 18) (is_general 17 a at) h e
 
-day_refused : (b : Bool) (n : ℕ) (t : Time) (x : Refusal) → refused x ≡ cond b (answer n) (refusal 21 0) → refused x ≡ cond b (answer t) (refusal 21 0)
+day_refused : (b : Bool) (n : ℕ) (t : Option Time) (x : Refusal) → refused x ≡ cond b (answer n) (refusal 21 0) → refused x ≡ cond b (answer t) (refusal 21 0)
 day_refused true n t x e = let z : ◌≡◌ {A = ℕ} 0 1 = cc in absurd (omega arith)
 day_refused false n t x e = moved x.number x.place 21 0 e
 
@@ -99,10 +99,10 @@ day_answer : (b : Bool) (n m d : ℕ) → answer d ≡ cond b (answer n) (refusa
 day_answer true n m d e = let q : d ≡ n = cc in rw q
 day_answer false n m d e = let z : ◌≡◌ {A = ℕ} 0 1 = cc in absurd (omega arith)
 
-pub day_none : (t : Moment) (x : Refusal) → refused x ≡ day_number_of t.date → refused x ≡ time_of_moment (G.At t)
-day_none t x k = day_refused (has_day t.date) (days_to t.date) (time_of_general (G.At t)) x k
+pub day_none : (t : Moment) (x : Refusal) → refused x ≡ day_number_of t.date → refused x ≡ time_of_moment (Some t)
+day_none t x k = day_refused (has_day t.date) (days_to t.date) (time_of_general (Some t)) x k
 
-pub day_some : (t : Moment) (d m : ℕ) → answer d ≡ day_number_of t.date → m ≡ milli_of t → answer (T.At d m) ≡ time_of_moment (G.At t)
+pub day_some : (t : Moment) (d m : ℕ) → answer d ≡ day_number_of t.date → m ≡ milli_of t → answer (T.At d m) ≡ time_of_moment (Some t)
 day_some t d m k s = rw s (day_answer (has_day t.date) (days_to t.date) (milli_of t) d k)
 
 -- ---- put_moment
@@ -112,13 +112,13 @@ module _ (n : ℕ) (a : List ℕ) (t : Moment) (b1 b2 b3 b4 b5 b6 b7 : List ℕ)
   moment_put = rw (e7, e6, e5, e4, e3, e2, e1)
 
 -- ---- write_general
-pub put_undefined : (n : ℕ) (a : List ℕ) (time : General) → time ≡ G.Undefined → put_none n a ≡ put_general n a time
+pub put_undefined : (n : ℕ) (a : List ℕ) (time : Option Moment) → time ≡ None → put_none n a ≡ put_general n a time
 put_undefined n a time e = rw e
 
-pub put_at : (n : ℕ) (a : List ℕ) (time : General) (t : Moment) → time ≡ G.At t → put_moment n a t ≡ put_general n a time
+pub put_at : (n : ℕ) (a : List ℕ) (time : Option Moment) (t : Moment) → time ≡ Some t → put_moment n a t ≡ put_general n a time
 put_at n a time t e = rw e
 
-module _ (room : List ℕ) (long : Bool) (time : General) (n : ℕ) (en : n ≡ digits_of long) (f : Bool) (ef : f ≡ fits_general long time) where
+module _ (room : List ℕ) (long : Bool) (time : Option Moment) (n : ℕ) (en : n ≡ digits_of long) (f : Bool) (ef : f ≡ fits_general long time) where
   pub write_wrong : f ≡ false → (refusal 21 0 ≡ writes room (digits_of long + 1) (fits_general long time)) × (room ≡ wrote room (digits_of long + 1) (fits_general long time) (put_general (digits_of long) room time))
   write_wrong h = (rw (← ef, h), rw (← ef, h))
 

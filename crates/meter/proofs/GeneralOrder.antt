@@ -15,8 +15,9 @@ use lib.ListN.{length, get_or}
 use Rattle.calendar.specs.Calendar.{date_of}
 use Rattle.calendar.proofs.Dates.{key, ordered}
 use Rattle.meter.specs.Time.{last_milli, order_of}
-use Rattle.meter.specs.declared.time.Order.TheVariants as O
-use Rattle.meter.specs.declared.time.Time.TheVariants as T
+use Rattle.std.specs.declared.option.Option.TheVariants.{Some}
+use Rattle.std.specs.declared.cmp.Ordering.TheVariants.{Less, Equal, Greater}
+use Rattle.meter.specs.Instant as T
 use Rattle.meter.specs.General.{number_of, moment_at, put_moment, put_general, moment_of, general_of, minute_of}
 use Rattle.meter.proofs.GeneralRuns.{Digits, digits_same, whole_is, whole_of}
 use Rattle.meter.proofs.GeneralWrite.{moment_bounds, moment_digits, moment_zed, moment_back}
@@ -136,22 +137,22 @@ module _ (d m e k : ℕ) (x y : List ℕ) (day : d < 65536) (milli : m ≤ last_
           absurd (not_same (put_moment 17 x (moment_of d m)) (put_moment 17 y (moment_of e k)) 18 (same_text d m e k x y day milli room day' milli' room' (omega (arith, a, b)) (omega (arith, f, g))) t)
 
 -- ---- the order that time_order answers
-order_earlier : (d m e k : ℕ) (p q r s : Bool) → ltb d e ≡ p → ltb e d ≡ q → ltb m k ≡ r → cond p O.Before (cond q O.After (cond r O.Before (cond s O.After O.Same))) ≡ O.Before → Earlier d m e k
+order_earlier : (d m e k : ℕ) (p q r s : Bool) → ltb d e ≡ p → ltb e d ≡ q → ltb m k ≡ r → cond p Less (cond q Greater (cond r Less (cond s Greater Equal))) ≡ Less → Earlier d m e k
 order_earlier d m e k true q r s p-is q-is r-is o = inl (ltb-true d e p-is)
 order_earlier d m e k false true r s p-is q-is r-is o = let z : ◌≡◌ {A = ℕ} 0 1 = cc in absurd (omega arith)
 order_earlier d m e k false false true s p-is q-is r-is o = inr (omega (arith, ltb-false d e p-is, ltb-false e d q-is), ltb-true m k r-is)
 order_earlier d m e k false false false true p-is q-is r-is o = let z : ◌≡◌ {A = ℕ} 0 1 = cc in absurd (omega arith)
 order_earlier d m e k false false false false p-is q-is r-is o = let z : ◌≡◌ {A = ℕ} 0 1 = cc in absurd (omega arith)
 
-earlier_order : (d m e k : ℕ) → Earlier d m e k → order_of d m e k ≡ O.Before
+earlier_order : (d m e k : ℕ) → Earlier d m e k → order_of d m e k ≡ Less
 earlier_order d m e k (inl w) = rw (lt-ltb d e w)
 earlier_order d m e k (inr (w, v)) = rw (le-ltb d e (omega arith), le-ltb e d (omega arith), lt-ltb m k v)
 
 module _ (d m e k : ℕ) (x y : List ℕ) (day : d < 65536) (milli : m ≤ last_milli d) (room : 18 ≤ length x) (day' : e < 65536) (milli' : k ≤ last_milli e) (room' : 18 ≤ length y) where
   -- THE ORDER AGREES WITH THE TEXTS'
-  pub order_text : order_of d m e k ≡ O.Before → TextBefore (put_general 17 x (general_of (T.At d m))) (put_general 17 y (general_of (T.At e k))) 18
+  pub order_text : order_of d m e k ≡ Less → TextBefore (put_general 17 x (general_of (T.At d m))) (put_general 17 y (general_of (T.At e k))) 18
   order_text o =
       earlier_text d m e k x y day milli room day' milli' room' (order_earlier d m e k (ltb d e) (ltb e d) (ltb m k) (ltb k m) refl refl refl o)
 
-  pub text_order : TextBefore (put_general 17 x (general_of (T.At d m))) (put_general 17 y (general_of (T.At e k))) 18 → order_of d m e k ≡ O.Before
+  pub text_order : TextBefore (put_general 17 x (general_of (T.At d m))) (put_general 17 y (general_of (T.At e k))) 18 → order_of d m e k ≡ Less
   text_order t = earlier_order d m e k (text_earlier d m e k x y day milli room day' milli' room' t)

@@ -1,8 +1,9 @@
 -- What a run of bytes and the number of digits are: a run is the bytes that pass up to the first that does not, "each of n bytes" means
 -- each, and n digits are a number below 10 ^ n that has those digits and no others. By induction on n. Assumes nothing.
-use mathlib.Core.Path.{◌≡◌, refl, sym, ap}
+use mathlib.Core.Path.{◌≡◌, refl, sym, ap, ◌∙◌}
 use mathlib.Core.Bool.{Bool, true, false, cond, ◌&&◌, true≢false}
 use mathlib.Core.List.{List}
+use mathlib.Core.Logic.{◌⊎◌, inl, inr}
 use Prim.Native.Nat.{ℕ, zero, suc, ◌+◌, ◌-◌, ◌*◌, ◌^◌, ◌≤◌, ◌<◌}
 use native.Mathlib.Nat.{not-suc-le-zero, le_of_suc-le-suc, le_refl, pow-suc, pow-le-pow_right, mul_assoc, add-mul}
 use native.Mathlib.Numerals.{unary_clauses}
@@ -10,7 +11,11 @@ use native.Mathlib.Decide.{dec_lt}
 use native.Mathlib.Omega.{arith}
 use borrow.Author.Tests.{lt-leb, le-leb, leb-true, eq-eqb, eqb-true}
 use lib.Dec.{lit<, leb}
-use lib.ListN.{get_or}
+use lib.ListN.{get_or, length, take, drop}
+use Rattle.std.proofs.Common.{length-take, length-drop, get_or-take, get_or-drop}
+use Rattle.std.specs.List.{AllWithin, HoldsAt}
+use Rattle.std.specs.Option.{MatchOption, unwrap_or}
+use Rattle.std.specs.Prelude.{Option, None, Some}
 use Rattle.calendar.specs.Calendar.{date}
 use Rattle.meter.specs.declared.general.Moment.{Moment}
 use Rattle.meter.specs.General.{lead, within, run_of, each, number_of, moment_at}
@@ -70,6 +75,40 @@ module _ (lo hi : ℕ) (a : List ℕ) (i n : ℕ) where
 
   pub in_each : ((j : ℕ) → j < n → In lo hi (get_or a (i + j) 0)) → each lo hi a i n ≡ true
   in_each f = eq-eqb _ _ (run_is n (le_refl n) (λ j h. inside lo hi (get_or a (i + j) 0) (f j h).0 (f j h).1) (λ h. absurd (omega arith)))
+
+-- a search for the first byte that is not lo to hi finds the run's end
+pub run_found : (lo hi : ℕ) (a : List ℕ) (r : Option ℕ)
+    → MatchOption r (AllWithin (In lo hi) a 0 (length a)) (λ k. (k < length a) × HoldsAt (λ (x : ℕ). (x < lo) ⊎ (hi < x)) a k × AllWithin (In lo hi) a 0 k)
+    → (unwrap_or r (length a) ≡ run_of lo hi a 0 (length a)) × (unwrap_or r (length a) ≤ length a)
+run_found lo hi a None f = (sym (run_is lo hi a 0 (length a) (length a) (le_refl (length a)) passed (λ l. absurd (omega arith))), le_refl (length a))
+  where
+    passed : (j : ℕ) → j < length a → within lo hi (get_or a (0 + j) 0) ≡ true
+    passed j l = let z : 0 + j ≡ j = omega arith in let v = f j 0 (omega arith) l in rw z (inside lo hi (get_or a j 0) v.0 v.1)
+run_found lo hi a (Some k) f = (sym (run_is lo hi a 0 (length a) k (omega (arith, f.0)) passed (λ _. stopped)), omega (arith, f.0))
+  where
+    passed : (j : ℕ) → j < k → within lo hi (get_or a (0 + j) 0) ≡ true
+    passed j l = let z : 0 + j ≡ j = omega arith in let v = f.2 j 0 (omega arith) l in rw z (inside lo hi (get_or a j 0) v.0 v.1)
+
+    out : (x : ℕ) → (x < lo) ⊎ (hi < x) → within lo hi x ≡ false
+    out x (inl g) = outside lo hi x (λ h. absurd (omega arith))
+    out x (inr g) = outside lo hi x (λ _. g)
+
+    stopped : within lo hi (get_or a (0 + k) 0) ≡ false
+    stopped = let z : 0 + k ≡ k = omega arith in rw z (out (get_or a k 0) (f.1 0))
+
+lead_same : (p q : ℕ → Bool) (n : ℕ) → ((j : ℕ) → j < n → p j ≡ q j) → lead p n ≡ lead q n
+unfolding lead
+lead_same p q zero f = refl
+lead_same p q (suc n) f = rw (f 0 (omega arith), lead_same (λ (j : ℕ). p (suc j)) (λ (j : ℕ). q (suc j)) n (λ j h. f (suc j) (omega arith))) refl
+
+-- the run of a slice's bytes i to j is that of the n bytes from i on
+pub run_part : (lo hi : ℕ) (a : List ℕ) (i j n r : ℕ) → j ≡ i + n → j ≤ length a
+    → r ≡ run_of lo hi (take (j - i) (drop i a)) 0 (length (take (j - i) (drop i a))) → r ≡ run_of lo hi a i n
+unfolding run_of
+run_part lo hi a i j n r e h f =
+    let k : j - i ≡ n = omega arith in
+    let l : length (take n (drop i a)) ≡ n = simp (length-take, length-drop) (omega arith) in
+    rw (k, l) at f ∙ lead_same _ _ n (λ m g. ap (within lo hi) (rw (get_or-take n (drop i a) (0 + m) 0 (omega arith), get_or-drop) (ap (λ (x : ℕ). get_or a x 0) (omega arith))))
 
 -- ---- numbers of bytes
 module _ (a : List ℕ) (b : (k : ℕ) → get_or a k 0 < 256) (i : ℕ) where

@@ -16,11 +16,11 @@ use Rattle.calendar.specs.Calendar.{is_date, date_of, days_to, has_day, leap_day
 use Rattle.calendar.proofs.Dates.{date_number, number_date, date_valid, has_day_lem, year_low}
 use Rattle.meter.specs.Lent.{inside, writes, wrote}
 use Rattle.meter.specs.Time.{last_milli, is_milli, is_time, InDays}
+use Rattle.std.specs.declared.option.Option.TheVariants.{Some, None}
+use Rattle.std.specs.declared.option.Option.{Option}
 use Rattle.meter.specs.declared.time.Time.{Time}
-use Rattle.meter.specs.declared.time.Time.TheVariants as T
+use Rattle.meter.specs.Instant as T
 use Rattle.meter.specs.declared.general.Moment.{Moment}
-use Rattle.meter.specs.declared.general.General.{General}
-use Rattle.meter.specs.declared.general.General.TheVariants as G
 use Rattle.meter.specs.General.{each, is_none, is_digits, moment_at, last_second, is_moment, put_moment, put_general, fits_general, moment_of, milli_of, general_of, time_of_general, has_time, text_time_at, minute_of}
 use Rattle.meter.proofs.GeneralRuns.{and_true, Digits, each_in, digits_same, whole_is, whole_of}
 use Rattle.meter.proofs.GeneralWrite.{Bounds, moment_bounds, moment_digits, moment_zed, moment_back, general_back}
@@ -75,14 +75,14 @@ moment_valid d m l h =
     )
 
 -- ---- time_text, in the code's names
-pub moment_fits : (d m : ℕ) → d < 65536 → is_milli d m ≡ true → fits_general true (G.At (moment_of d m)) ≡ true
+pub moment_fits : (d m : ℕ) → d < 65536 → is_milli d m ≡ true → fits_general true (Some (moment_of d m)) ≡ true
 moment_fits d m l h = rw (moment_valid d m l (leb-true m (last_milli d) h))
 
 -- what time_text answers, by what write_general did with the moment g
-pub text_written : (room : List ℕ) (time : Time) (g : General) (r : Said ℕ) (b : List ℕ) → is_time time ≡ true → g ≡ general_of time → fits_general true g ≡ true → (r ≡ writes room 18 (fits_general true g)) × (b ≡ wrote room 18 (fits_general true g) (put_general 17 room g)) → (r ≡ writes room 18 (is_time time)) × (b ≡ wrote room 18 (is_time time) (put_general 17 room (general_of time)))
+pub text_written : (room : List ℕ) (time : Option Time) (g : Option Moment) (r : Said ℕ) (b : List ℕ) → is_time time ≡ true → g ≡ general_of time → fits_general true g ≡ true → (r ≡ writes room 18 (fits_general true g)) × (b ≡ wrote room 18 (fits_general true g) (put_general 17 room g)) → (r ≡ writes room 18 (is_time time)) × (b ≡ wrote room 18 (is_time time) (put_general 17 room (general_of time)))
 text_written room time g r b t e f p = (
   p.0 ∙ ap (writes room 18) (f ∙ sym t),
-  p.1 ∙ ap (λ (x : Bool). wrote room 18 x (put_general 17 room g)) (f ∙ sym t) ∙ ap (λ (x : General). wrote room 18 (is_time time) (put_general 17 room x)) e,
+  p.1 ∙ ap (λ (x : Bool). wrote room 18 x (put_general 17 room g)) (f ∙ sym t) ∙ ap (λ (x : Option Moment). wrote room 18 (is_time time) (put_general 17 room x)) e,
 )
 
 -- ---- TIME TO TEXT TO TIME
@@ -90,13 +90,13 @@ of_date : (d m : ℕ) → (moment_of d m).date ≡ date_of d
 unfolding moment_of
 of_date d m = refl
 
-pub time_text_back : (a : List ℕ) (t : Time) → is_time t ≡ true → InDays t → 18 ≤ length a → text_time_at (put_general 17 a (general_of t)) 0 ≡ answer t
-time_text_back a T.Undefined e l h = sym (text_answer (put_general 17 a G.Undefined) 0 G.Undefined (sym (general_back true a G.Undefined refl h)))
-time_text_back a (T.At d m) e l h =
-    let g = G.At (moment_of d m) in
-    let has : has_day (moment_of d m).date ≡ true = rw (of_date d m) (has_day_lem (date_of d) (date_valid d l) (year_low d) (omega (arith, number_date d))) in
-    let day : days_to (moment_of d m).date ≡ d = rw (of_date d m) (number_date d) in
-    sym (text_answer (put_general 17 a g) 0 g (sym (general_back true a g (moment_fits d m l e) h))) ∙ rw (has, day, milli_back d m)
+pub time_text_back : (a : List ℕ) (t : Option Time) → is_time t ≡ true → InDays t → 18 ≤ length a → text_time_at (put_general 17 a (general_of t)) 0 ≡ answer t
+time_text_back a None e l h = sym (text_answer (put_general 17 a None) 0 None (sym (general_back true a None refl h)))
+time_text_back a (Some t) e l h =
+    let g = Some (moment_of t.day t.milli) in
+    let has : has_day (moment_of t.day t.milli).date ≡ true = rw (of_date t.day t.milli) (has_day_lem (date_of t.day) (date_valid t.day l) (year_low t.day) (omega (arith, number_date t.day))) in
+    let day : days_to (moment_of t.day t.milli).date ≡ t.day = rw (of_date t.day t.milli) (number_date t.day) in
+    sym (text_answer (put_general 17 a g) 0 g (sym (general_back true a g (moment_fits t.day t.milli l e) h))) ∙ rw (has, day, milli_back t.day t.milli)
 
 -- ---- TEXT TO TIME TO TEXT
 -- the text of a moment is determined by its 17 digits and the Z
@@ -126,12 +126,23 @@ record TextOf (x d m c : Bool) (t : Moment) (day ms : ℕ) : Type 0 where
   day_is : days_to t.date ≡ day
   milli_is : milli_of t ≡ ms
 
-text_of : (i x d m : Bool) (t : Moment) (len day ms : ℕ) → cond i (cond ((x || (d && m)) && has_time (cond x G.Undefined (G.At t))) (answer (time_of_general (cond x G.Undefined (G.At t)))) (refusal 21 0)) (refusal 20 len) ≡ answer (T.At day ms) → TextOf x d m (has_day t.date) t day ms
+-- the day and the millisecond of a time that an answer tells
+abbrev day_said : Said (Option Time) → ℕ
+day_said (answer (Some t)) = t.day
+day_said (answer None) = 0
+day_said (refusal n p) = 0
+
+abbrev milli_said : Said (Option Time) → ℕ
+milli_said (answer (Some t)) = t.milli
+milli_said (answer None) = 0
+milli_said (refusal n p) = 0
+
+text_of : (i x d m : Bool) (t : Moment) (len day ms : ℕ) → cond i (cond ((x || (d && m)) && has_time (cond x None (Some t))) (answer (time_of_general (cond x None (Some t)))) (refusal 21 0)) (refusal 20 len) ≡ answer (T.At day ms) → TextOf x d m (has_day t.date) t day ms
 text_of true true d m t len day ms e = let z : ◌≡◌ {A = ℕ} 0 1 = cc in absurd (omega arith)
 text_of true false true true t len day ms e = go (has_day t.date) e
   where
     go : (c : Bool) → cond c (answer (T.At (days_to t.date) (milli_of t))) (refusal 21 0) ≡ answer (T.At day ms) → TextOf false true true c t day ms
-    go true e = record { digits = refl; moment = refl; dated = refl; day_is = cc; milli_is = cc }
+    go true e = let u : days_to t.date ≡ day = ap day_said e in let v : milli_of t ≡ ms = ap milli_said e in record { digits = refl; moment = refl; dated = refl; day_is = u; milli_is = v }
     go false e = let z : ◌≡◌ {A = ℕ} 0 1 = cc in absurd (omega arith)
 text_of true false true false t len day ms e = let z : ◌≡◌ {A = ℕ} 0 1 = cc in absurd (omega arith)
 text_of true false false m t len day ms e = let z : ◌≡◌ {A = ℕ} 0 1 = cc in absurd (omega arith)

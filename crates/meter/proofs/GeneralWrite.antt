@@ -2,14 +2,17 @@
 -- back, in the short form and in the long one (14 and 17 digits: one proof over n). By induction on the digits. Assumes nothing.
 use mathlib.Core.Path.{◌≡◌, refl, sym, ◌∙◌}
 use mathlib.Core.Bool.{Bool, true, false, ◌&&◌, cond}
-use mathlib.Core.List.{List, [], ◌∷◌}
+use mathlib.Core.List.{List, [], ◌∷◌, ◌++◌}
 use Prim.Native.Nat.{ℕ, zero, suc, ◌+◌, ◌-◌, ◌/◌, ◌%◌, ◌^◌, ◌≤◌, ◌<◌}
 use native.Mathlib.Nat.{pow-suc, not-suc-le-zero}
 use native.Mathlib.Decide.{dec_lt}
+use native.Mathlib.Numerals.{add-one}
 use native.Mathlib.Omega.{arith}
+use Rattle.std.proofs.Common.{append_assoc}
+use Rattle.std.proofs.lemmas.List.{drop-set, replicate_more}
 use borrow.Author.Tests.{eq-eqb, le-leb, leb-true, eqb-true}
 use lib.Dec.{leb, eqb}
-use lib.ListN.{length, get_or, set, length-set}
+use lib.ListN.{length, get_or, set, drop, replicate, length-set}
 use lib.Seq.{get_or-set_same, get_or-set_other}
 use Rattle.calendar.specs.Said.{answer}
 use Rattle.calendar.specs.Calendar.{is_date, leap_date}
@@ -17,8 +20,8 @@ use Rattle.calendar.specs.declared.Date.{Date}
 use Rattle.calendar.proofs.Dates.{valid, valid_day}
 use Rattle.meter.specs.Lent.{reads}
 use Rattle.meter.specs.declared.general.Moment.{Moment}
-use Rattle.meter.specs.declared.general.General.{General}
-use Rattle.meter.specs.declared.general.General.TheVariants as G
+use Rattle.std.specs.declared.option.Option.TheVariants.{Some, None}
+use Rattle.std.specs.declared.option.Option.{Option}
 use Rattle.meter.specs.General.{digits_of, number_of, each, is_none, is_digits, moment_at, last_second, is_moment, is_general, general_at, general_read_at, put_digits, put_moment, put_x, put_none, put_general, fits_general}
 use Rattle.meter.proofs.GeneralRuns.{and_true, In, Digits, each_in, in_each, number_cong, moment_read}
 
@@ -84,15 +87,13 @@ unfolding put_x
 x_after a zero j h = refl
 x_after a (suc n) j h = x_after (set a n 120) n j (omega arith) ∙ get_or-set_other a n j 120 0 (λ e. omega arith)
 
-pub x_step : (a : List ℕ) (n : ℕ) → 0 < n → put_x a n ≡ put_x (set a (n - 1) 120) (n - 1)
+-- as a slice's first n bytes are filled
+pub x_filled : (a : List ℕ) (n : ℕ) → n ≤ length a → replicate n 120 ++ drop n a ≡ put_x a n
 unfolding put_x
-x_step a zero h = absurd (omega arith)
-x_step a (suc k) h = let e : suc k - 1 ≡ k = omega arith in rw e
-
-pub x_none : (a : List ℕ) (n : ℕ) → n ≡ 0 → put_x a n ≡ a
-unfolding put_x
-x_none a zero h = refl
-x_none a (suc k) h = absurd (omega arith)
+x_filled a zero h = refl
+x_filled a (suc n) h =
+    let l : n < length a = omega arith in
+    sym (sym (x_filled (set a n 120) n (simp length-set (omega arith))) ∙ rw (drop-set a n 120 l) (rw (sym (append_assoc (replicate n 120) (120 ∷ []) (drop (n + 1) a)), replicate_more {X = ℕ} n 120, add-one) refl))
 
 last_x : (b : List ℕ) (n : ℕ) → ((j : ℕ) → j < n → get_or b j 0 ≡ 120) → get_or b n 0 ≡ 120 → (j : ℕ) → j < suc n → Dec (j < n) → get_or b j 0 ≡ 120
 last_x b n f d j h (yes k) = f j k
@@ -272,14 +273,14 @@ unfolding put_moment
 moment_length n a t = simp (length-set, digits_length)
 
 -- THE LENGTH STAYS
-pub general_length : (n : ℕ) (a : List ℕ) (t : General) → length (put_general n a t) ≡ length a
-general_length n a G.Undefined = simp (length-set, x_length)
-general_length n a (G.At t) = moment_length n a t
+pub general_length : (n : ℕ) (a : List ℕ) (t : Option Moment) → length (put_general n a t) ≡ length a
+general_length n a None = simp (length-set, x_length)
+general_length n a (Some t) = moment_length n a t
 
 -- THE BYTES AFTER THE TIME STAY
-pub general_kept : (n : ℕ) (a : List ℕ) (t : General) (j : ℕ) → 14 ≤ n → n < j → get_or (put_general n a t) j 0 ≡ get_or a j 0
-general_kept n a G.Undefined j l h = get_or-set_other (put_x a n) n j 90 0 (λ e. omega arith) ∙ x_after a n j (omega arith)
-general_kept n a (G.At t) j l h = moment_kept n a t l j h
+pub general_kept : (n : ℕ) (a : List ℕ) (t : Option Moment) (j : ℕ) → 14 ≤ n → n < j → get_or (put_general n a t) j 0 ≡ get_or a j 0
+general_kept n a None j l h = get_or-set_other (put_x a n) n j 90 0 (λ e. omega arith) ∙ x_after a n j (omega arith)
+general_kept n a (Some t) j l h = moment_kept n a t l j h
 
 none_below : (n : ℕ) (a : List ℕ) (j : ℕ) → n < length a → j < n → get_or (put_none n a) j 0 ≡ 120
 none_below n a j h l = get_or-set_other (put_x a n) n j 90 0 (λ e. omega arith) ∙ x_are a n (omega arith) j l
@@ -295,14 +296,14 @@ none_is n a h =
     rw (in_each 120 120 (put_none n a) 0 n f, z, none_zed n a h)
 
 -- what can be written in n digits
-abbrev Fits : ℕ → General → Type 0
-Fits n G.Undefined = Unit
-Fits n (G.At t) = (is_moment t ≡ true) × (t.milli < 10 ^ (n - 14))
+abbrev Fits : ℕ → Option Moment → Type 0
+Fits n None = Unit
+Fits n (Some t) = (is_moment t ≡ true) × (t.milli < 10 ^ (n - 14))
 
-back_at : (n : ℕ) (a : List ℕ) (t : General) → 14 ≤ n → n < length a → Fits n t → reads (put_general n a t) 0 (n + 1) (is_general n (put_general n a t) 0) (general_at n (put_general n a t) 0) ≡ answer t
-back_at n a G.Undefined l h f =
-    rw (le-leb (0 + (n + 1)) (length (put_none n a)) (omega (arith, general_length n a G.Undefined)), none_is n a h)
-back_at n a (G.At t) l h f =
+back_at : (n : ℕ) (a : List ℕ) (t : Option Moment) → 14 ≤ n → n < length a → Fits n t → reads (put_general n a t) 0 (n + 1) (is_general n (put_general n a t) 0) (general_at n (put_general n a t) 0) ≡ answer t
+back_at n a None l h f =
+    rw (le-leb (0 + (n + 1)) (length (put_none n a)) (omega (arith, general_length n a None)), none_is n a h)
+back_at n a (Some t) l h f =
     rw (
       le-leb (0 + (n + 1)) (length (put_moment n a t)) (omega (arith, moment_length n a t)),
       moment_not_none n a t l h,
@@ -311,15 +312,15 @@ back_at n a (G.At t) l h f =
       f.0,
     )
 
-fits_is : (long : Bool) (t : General) → fits_general long t ≡ true → Fits (digits_of long) t
-fits_is long G.Undefined e = tt
-fits_is true (G.At t) e = let u = and_true (is_moment t) _ e in (u.0, omega (arith, (moment_bounds t u.0).milli))
-fits_is false (G.At t) e = let u = and_true (is_moment t) _ e in (u.0, omega (arith, eqb-true t.milli 0 u.1))
+fits_is : (long : Bool) (t : Option Moment) → fits_general long t ≡ true → Fits (digits_of long) t
+fits_is long None e = tt
+fits_is true (Some t) e = let u = and_true (is_moment t) _ e in (u.0, omega (arith, (moment_bounds t u.0).milli))
+fits_is false (Some t) e = let u = and_true (is_moment t) _ e in (u.0, omega (arith, eqb-true t.milli 0 u.1))
 
 pub width_low : (long : Bool) → 14 ≤ digits_of long
 width_low true = omega arith
 width_low false = omega arith
 
 -- WHAT IS WRITTEN READS BACK
-pub general_back : (long : Bool) (a : List ℕ) (t : General) → fits_general long t ≡ true → digits_of long + 1 ≤ length a → general_read_at long (put_general (digits_of long) a t) 0 ≡ answer t
+pub general_back : (long : Bool) (a : List ℕ) (t : Option Moment) → fits_general long t ≡ true → digits_of long + 1 ≤ length a → general_read_at long (put_general (digits_of long) a t) 0 ≡ answer t
 general_back long a t e h = back_at (digits_of long) a t (width_low long) (omega arith) (fits_is long t e)

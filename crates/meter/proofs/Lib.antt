@@ -6,6 +6,7 @@ pub mod RoundingLaws
 pub mod RoundedLaws
 pub mod ReadingLaws
 pub mod ReadsBack
+pub mod Parts
 pub mod GeneralRuns
 pub mod GeneralWrite
 pub mod GeneralCode

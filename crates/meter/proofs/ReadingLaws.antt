@@ -16,12 +16,15 @@ use lib.Ieee.Back.{round_whole}
 use lib.Ieee.Scale.{round_same}
 use Rattle.calendar.specs.Said.{Said, answer, refusal}
 use Rattle.meter.specs.Scaled.{is_scale, divided, multiplied, stands_for}
-use Rattle.meter.specs.Reading.{quotient, converted, carried, is_whole, whole_of, shown_as, reading_of, said_reading, ExactCase}
+use Rattle.meter.specs.Reading.{quotient, converted, carried, is_whole, whole_of, shown_as, reading_of, ExactCase}
+use Rattle.std.specs.declared.option.Option.{Option}
+use Rattle.std.specs.declared.result.Result.{Result}
+use Rattle.calendar.specs.declared.Refusal.{Refusal}
 use Rattle.meter.specs.declared.scaled.Scaled.{Scaled}
-use Rattle.meter.specs.declared.scaled.Scaled.TheVariants as S
+use Rattle.meter.specs.Numeral as S
+use Rattle.calendar.specs.Said.{said}
 use Rattle.meter.specs.declared.scaled.Reading.{Reading}
 use Rattle.meter.specs.declared.scaled.Reading.TheVariants as M
-use Rattle.meter.specs.declared.scaled.Shown.{Shown}
 use Rattle.meter.proofs.ScaledLaws.{scale_small}
 use Rattle.meter.proofs.RoundingLaws.{ten_pos}
 
@@ -148,5 +151,5 @@ exact_shown i s v e =
     let q = whole_shown (leb (nat_abs x.above) 0x20_0000_0000_0000) (is_whole x) (carried i s) v p.1 in
     q.2 ∙ exact_case i s p.0 (leb-true (nat_abs x.above) 0x20_0000_0000_0000 q.0) q.1
 
-pub exact_of : (x : Scaled) (r : Shown) → said_reading r ≡ reading_of x → ExactCase x r
-exact_of x r e = record { exact = λ f g. exact_shown _ _ _ (sym (ap said_reading g) ∙ e ∙ ap reading_of f) }
+pub exact_of : (x : Option Scaled) (r : Result Reading Refusal) → said r ≡ reading_of x → ExactCase x r
+exact_of x r e = record { exact = λ f g. exact_shown _ _ _ (sym (ap said g) ∙ e ∙ ap reading_of f) }

@@ -18,10 +18,12 @@ use Rattle.meter.specs.Lent.{inside, reads}
 use Rattle.meter.specs.Integer.{be_at, stored, twos, word_of, is_width, top_of, half_of, fits_unsigned, fits_signed, unsigned_at, signed_at}
 use Rattle.meter.specs.Time.{is_time, bits_of, time_of, time_at, time_read_at}
 use Rattle.meter.specs.Scaled.{is_scale, lowest, highest, none_of, same, integer_of, is_none, is_defined, scaled_read_at, fits_defined, fits_scaled, put_scaled}
+use Rattle.std.specs.declared.option.Option.TheVariants.{Some, None}
+use Rattle.std.specs.declared.option.Option.{Option}
 use Rattle.meter.specs.declared.time.Time.{Time}
-use Rattle.meter.specs.declared.time.Time.TheVariants as T
 use Rattle.meter.specs.declared.scaled.Scaled.{Scaled}
-use Rattle.meter.specs.declared.scaled.Scaled.TheVariants as S
+use Rattle.meter.specs.Numeral as S
+use Rattle.meter.specs.Instant as T
 use Rattle.meter.proofs.IntegerLaws.{Wide, wide_of, back, again, stored_length, stored_before, be_at_lt, word_cut, word_twos, unsigned_fits, signed_fits}
 use Rattle.meter.proofs.ScaledLaws.{same_self, read_none, read_some}
 
@@ -70,14 +72,14 @@ module _ (room b : List ℕ) (at n : ℕ) (bytes : (k : ℕ) → get_or b k 0 < 
 bits_of_time : (bits : ℕ) → bits_of (time_of bits) ≡ bits
 bits_of_time bits = go (eqb bits 0xffff_ffff_ffff) refl
   where
-    go : (b : Bool) → eqb bits 0xffff_ffff_ffff ≡ b → bits_of (cond b T.Undefined (T.At (bits / 0x1_0000_0000) (bits % 0x1_0000_0000))) ≡ bits
+    go : (b : Bool) → eqb bits 0xffff_ffff_ffff ≡ b → bits_of (cond b None (T.At (bits / 0x1_0000_0000) (bits % 0x1_0000_0000))) ≡ bits
     go true e = sym (eqb-true bits 0xffff_ffff_ffff e)
     go false e = omega arith
 
-pub time_again : (room b : List ℕ) (at : ℕ) (t : Time) → ((k : ℕ) → get_or b k 0 < 256) → 6 ≤ length room → time_read_at b at ≡ answer t → (k : ℕ) → k < 6 → get_or (stored room 0 6 (bits_of t)) k 0 ≡ get_or b (at + k) 0
+pub time_again : (room b : List ℕ) (at : ℕ) (t : Option Time) → ((k : ℕ) → get_or b k 0 < 256) → 6 ≤ length room → time_read_at b at ≡ answer t → (k : ℕ) → k < 6 → get_or (stored room 0 6 (bits_of t)) k 0 ≡ get_or b (at + k) 0
 time_again room b at t bytes h e k l =
     let r = reads_answer b at 6 (is_time (time_at b at)) (time_at b at) t e in
-    let m : bits_of t % 256 ^ 6 ≡ be_at b at 6 = ap (λ (u : Time). bits_of u % 256 ^ 6) (sym r.2) ∙ ap (λ (j : ℕ). j % 256 ^ 6) (bits_of_time (be_at b at 6)) ∙ mod-eq_of_lt (be_at_lt b bytes at 6) in
+    let m : bits_of t % 256 ^ 6 ≡ be_at b at 6 = ap (λ (u : Option Time). bits_of u % 256 ^ 6) (sym r.2) ∙ ap (λ (j : ℕ). j % 256 ^ 6) (bits_of_time (be_at b at 6)) ∙ mod-eq_of_lt (be_at_lt b bytes at 6) in
     let z : 0 + k ≡ k = omega arith in
     rw z at (again room b 0 at 6 (bits_of t) bytes h m k l)
 
@@ -132,17 +134,17 @@ number_back signed n a i s h w g =
     let d : same i (none_of signed n) ≡ false = not-true (same i (none_of signed n)) r.1 in
     read_some signed n c 0 (parts_inside signed n a h w (word_of s) (word_of i)) w (ap (λ (y : ℤ). same y (none_of signed n)) e ∙ d) ∙ rw (e, k, p.0, q.1)
 
-pub scaled_back : (signed : Bool) (n : ℕ) (a : List ℕ) (x : Scaled) → fits_scaled signed n x ≡ true → 1 + n ≤ length a → scaled_read_at signed n (put_scaled signed n a x) 0 ≡ answer x
-scaled_back signed n a S.Undefined f h =
+pub scaled_back : (signed : Bool) (n : ℕ) (a : List ℕ) (x : Option Scaled) → fits_scaled signed n x ≡ true → 1 + n ≤ length a → scaled_read_at signed n (put_scaled signed n a x) 0 ≡ answer x
+scaled_back signed n a None f h =
     let W = wide_of n f in
     let g = none_in_width signed n W in
     let v = word_of (none_of signed n) in
     let e : integer_of signed n (be_at (stored (stored a 0 1 0) 1 n v) 1 n) ≡ none_of signed n = ap (integer_of signed n) (parts_word signed n a h f 0 v) ∙ in_width signed n (none_of signed n) W g.0 g.1 in
     read_none signed n (stored (stored a 0 1 0) 1 n v) 0 (parts_inside signed n a h f 0 v) f (ap (λ (y : ℤ). same y (none_of signed n)) e ∙ same_self (none_of signed n))
-scaled_back signed n a (S.Number i s) f h = number (both (is_width n) (fits_defined signed n i s) f)
+scaled_back signed n a (Some t) f h = number (both (is_width n) (fits_defined signed n t.integer t.scale) f)
   where
-    number : (is_width n ≡ true) × (fits_defined signed n i s ≡ true) → scaled_read_at signed n (put_scaled signed n a (S.Number i s)) 0 ≡ answer (S.Number i s)
-    number (w, g) = number_back signed n a i s h w g
+    number : (is_width n ≡ true) × (fits_defined signed n t.integer t.scale ≡ true) → scaled_read_at signed n (put_scaled signed n a (S.Number t.integer t.scale)) 0 ≡ answer (S.Number t.integer t.scale)
+    number (w, g) = number_back signed n a t.integer t.scale h w g
 
 -- and what was read, where it is defined, is written back as it stood
 word_again : (signed : Bool) (n v : ℕ) → Wide n → v < 256 ^ n → word_of (integer_of signed n v) % 256 ^ n ≡ v
@@ -150,9 +152,18 @@ unfolding integer_of word_of
 word_again true n v w h = word_twos n (half_of n) v w.small w.halves h
 word_again false n v w h = mod-eq_of_lt h
 
-number_of : (b : Bool) (i j s t : ℤ) → cond b S.Undefined (S.Number i s) ≡ S.Number j t → (i ≡ j) × (s ≡ t)
+-- the integer and the scale of a number that is defined
+abbrev integer_said : Option Scaled → ℤ
+integer_said (Some n) = n.integer
+integer_said None = pos 0
+
+abbrev scale_said : Option Scaled → ℤ
+scale_said (Some n) = n.scale
+scale_said None = pos 0
+
+number_of : (b : Bool) (i j s t : ℤ) → cond b None (S.Number i s) ≡ S.Number j t → (i ≡ j) × (s ≡ t)
 number_of true i j s t e = let z : ◌≡◌ {A = ℕ} 0 1 = cc in absurd (omega arith)
-number_of false i j s t e = (cc, cc)
+number_of false i j s t e = (ap (λ (x : Option Scaled). integer_said x) e, ap (λ (x : Option Scaled). scale_said x) e)
 
 pub scaled_again : (signed : Bool) (n : ℕ) (room b : List ℕ) (at : ℕ) (i s : ℤ) → ((k : ℕ) → get_or b k 0 < 256) → 1 + n ≤ length room → scaled_read_at signed n b at ≡ answer (S.Number i s) → (k : ℕ) → k < 1 + n → get_or (put_scaled signed n room (S.Number i s)) k 0 ≡ get_or b (at + k) 0
 scaled_again signed n room b at i s bytes h e k l =

@@ -10,22 +10,23 @@ use lib.IntN.{ℤ, pos, negsuc, nat_abs}
 use lib.Signed.{mag}
 use Rattle.calendar.specs.Said.{Said, answer, refusal}
 use Rattle.meter.specs.Scaled.{is_scale, stands_for}
-use Rattle.meter.specs.Rounding.{is_decimals, near, with_sign, whole64, rounded_of, said_rounded, distance, IsNearest, NearestTo}
-use Rattle.meter.specs.declared.scaled.Scaled.TheVariants as S
-use Rattle.meter.specs.declared.scaled.Decimal.{Decimal}
-use Rattle.meter.specs.declared.scaled.Decimal.TheVariants as D
-use Rattle.meter.specs.declared.scaled.Rounded.TheVariants as R
+use Rattle.meter.specs.Rounding.{is_decimals, near, with_sign, whole64, rounded_of, distance, IsNearest, NearestTo}
+use Rattle.std.specs.declared.option.Option.TheVariants.{Some}
+use Rattle.std.specs.declared.result.Result.TheVariants.{Ok}
+use Rattle.std.specs.declared.option.Option.{Option}
+use Rattle.meter.specs.Numeral as S
+use Rattle.calendar.specs.Said.{said}
 use Rattle.meter.proofs.RoundingLaws.{below_pos, near_only, nearest_number}
 
-taken : (b : Bool) {x : Said Decimal} {m : ℤ} → cond b x (refusal 21 0) ≡ answer (D.Whole m) → x ≡ answer (D.Whole m)
+taken : (b : Bool) {x : Said (Option ℤ)} {m : ℤ} → cond b x (refusal 21 0) ≡ answer (Some m) → x ≡ answer (Some m)
 taken true e = e
 taken false e = let z : ◌≡◌ {A = ℕ} 0 1 = cc in absurd (omega arith)
 
-whole_is : (z m : ℤ) → whole64 z ≡ answer (D.Whole m) → z ≡ m
+whole_is : (z m : ℤ) → whole64 z ≡ answer (Some m) → z ≡ m
 unfolding whole64
 whole_is z m e = go (ltb (mag z) 0x8000_0000_0000_0000) e
   where
-    go : (b : Bool) → cond b (answer (D.Whole z)) (refusal 21 0) ≡ answer (D.Whole m) → z ≡ m
+    go : (b : Bool) → cond b (answer (Some z)) (refusal 21 0) ≡ answer (Some m) → z ≡ m
     go true e = cc
     go false e = let z : ◌≡◌ {A = ℕ} 0 1 = cc in absurd (omega arith)
 
@@ -35,7 +36,7 @@ size_of (pos n) r = refl
 size_of (negsuc n) zero = refl
 size_of (negsuc n) (suc r) = refl
 
-nearest_of : (i s : ℤ) (d : ℕ) (m : ℤ) → rounded_of (S.Number i s) (pos d) ≡ answer (D.Whole m) → NearestTo (stands_for i s) d m
+nearest_of : (i s : ℤ) (d : ℕ) (m : ℤ) → rounded_of (S.Number i s) (pos d) ≡ answer (Some m) → NearestTo (stands_for i s) d m
 nearest_of i s d m e =
     let x = stands_for i s in
     let r = near (nat_abs x.above * 10 ^ d) x.below in
@@ -44,7 +45,7 @@ nearest_of i s d m e =
     record { size = subst (IsNearest (nat_abs x.above * 10 ^ d) x.below) g (nearest_number i s d); sign = sym f ∙ ap (with_sign x.above) g }
 
 -- of whatever the promise of `round_to` lets it answer
-pub rounded_nearest : (i s : ℤ) (d : ℕ) (m : ℤ) → said_rounded (R.Decimal (D.Whole m)) ≡ rounded_of (S.Number i s) (pos d) → NearestTo (stands_for i s) d m
+pub rounded_nearest : (i s : ℤ) (d : ℕ) (m : ℤ) → said (Ok (Some m)) ≡ rounded_of (S.Number i s) (pos d) → NearestTo (stands_for i s) d m
 rounded_nearest i s d m e = nearest_of i s d m (sym e)
 
 -- NO OTHER is nearest

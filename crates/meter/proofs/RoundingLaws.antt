@@ -14,7 +14,7 @@ use lib.Signed.{lt_z}
 use Rattle.calendar.specs.Said.{answer, refusal}
 use Rattle.meter.specs.Scaled.{divided, multiplied, stands_for}
 use Rattle.meter.specs.Rounding.{near, with_sign, whole64, signed_of, nearest_to, IsNearest}
-use Rattle.meter.specs.declared.scaled.Decimal.TheVariants as D
+use Rattle.std.specs.declared.option.Option.TheVariants.{Some}
 use Rattle.meter.proofs.Signs.{size_times}
 
 two : (q p : ℕ) → q * (2 * p) ≡ 2 * (q * p)
@@ -97,16 +97,16 @@ unfolding with_sign
 sign_above (pos n) r t = refl
 sign_above (negsuc n) r t = absurd (true≢false t)
 
-pub zero_below : (i : ℤ) (r : ℕ) → lt_z i (pos 0) ≡ true → r ≡ 0 → signed_of i r ≡ answer (D.Whole (pos 0))
+pub zero_below : (i : ℤ) (r : ℕ) → lt_z i (pos 0) ≡ true → r ≡ 0 → signed_of i r ≡ answer (Some (pos 0))
 unfolding whole64
 zero_below i r t e = ap whole64 (sign_below i r t ∙ ap (λ (k : ℕ). neg_ℤ (pos k)) e)
 
-pub whole_below : (i : ℤ) (r : ℕ) → lt_z i (pos 0) ≡ true → 0 < r → r - 1 < 2 ^ 63 → signed_of i r ≡ answer (D.Whole (negsuc (r - 1)))
+pub whole_below : (i : ℤ) (r : ℕ) → lt_z i (pos 0) ≡ true → 0 < r → r - 1 < 2 ^ 63 → signed_of i r ≡ answer (Some (negsuc (r - 1)))
 unfolding whole64
 whole_below i zero t h l = absurd (omega arith)
 whole_below i (suc k) t h l = ap whole64 (sign_below i (suc k) t) ∙ (let e : suc k - 1 ≡ k = omega arith in rw e (simp (lt-ltb k (2 ^ 63) (omega arith))))
 
-pub whole_above : (i : ℤ) (r : ℕ) → lt_z i (pos 0) ≡ false → r < 2 ^ 63 → signed_of i r ≡ answer (D.Whole (pos r))
+pub whole_above : (i : ℤ) (r : ℕ) → lt_z i (pos 0) ≡ false → r < 2 ^ 63 → signed_of i r ≡ answer (Some (pos r))
 unfolding whole64
 whole_above i r t h = ap whole64 (sign_above i r t) ∙ simp (lt-ltb r (2 ^ 63) h)
 

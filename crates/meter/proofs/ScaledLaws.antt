@@ -18,7 +18,8 @@ use Rattle.meter.specs.Lent.{inside}
 use Rattle.meter.specs.Integer.{be_at, twos, word_of, is_width, top_of, half_of}
 use Rattle.meter.specs.Scaled.{is_scale, lowest, highest, none_of, same, integer_of, is_none, is_none_word, is_defined, scaled_read_at, fits_defined}
 use Rattle.meter.specs.Rounding.{is_decimals}
-use Rattle.meter.specs.declared.scaled.Scaled.TheVariants as S
+use Rattle.std.specs.declared.option.Option.TheVariants.{None}
+use Rattle.meter.specs.Numeral as S
 use Rattle.meter.proofs.IntegerLaws.{Wide, twos_low, twos_high}
 
 -- ---- decimals, by the code's two tests, and scales
@@ -154,7 +155,7 @@ none_unsigned n = refl
 
 -- ---- the reader, by cases
 module _ (signed : Bool) (n : ℕ) (a : List ℕ) (at : ℕ) (i : inside a at (1 + n) ≡ true) (w : is_width n ≡ true) where
-  pub read_none : is_none signed n (be_at a (at + 1) n) ≡ true → scaled_read_at signed n a at ≡ answer S.Undefined
+  pub read_none : is_none signed n (be_at a (at + 1) n) ≡ true → scaled_read_at signed n a at ≡ answer None
   read_none e = rw (i, w, e)
 
   pub read_some : is_none signed n (be_at a (at + 1) n) ≡ false → scaled_read_at signed n a at ≡ cond (is_defined signed n (be_at a (at + 1) n) (twos 128 (get_or a at 0))) (answer (S.Number (integer_of signed n (be_at a (at + 1) n)) (twos 128 (get_or a at 0)))) (refusal 21 0)

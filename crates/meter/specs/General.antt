@@ -1,19 +1,19 @@
 -- Generalised times (01, "MPHR": "A time is YYYYMMDDHHMMSSZ, with three millisecond digits before Z when long; Gregorian calendar,
 -- years 0000 to 9999, seconds 00..59"; 002, 2.2.2.1 and 2.2.2.2, for the undefined spelling). Assumes nothing.
 use Rattle.std.specs.Prelude.{ℕ, zero, suc, ◌+◌, ◌-◌, ◌*◌, ◌/◌, ◌%◌, min, ◌≡◌, Bool, true, cond, ◌&&◌, ◌||◌, List, eqb, leb, get_or, set}
-use Rattle.calendar.specs.Said.{Said, answer, refusal, refused}
+use Rattle.calendar.specs.Said.{Said, answer, refusal}
 use Rattle.calendar.specs.Calendar.{date, is_date, date_of, days_to, has_day, leap_date}
 use Rattle.calendar.specs.declared.Date.{Date}
-use Rattle.meter.specs.declared.integer.Written.{Written}
-use Rattle.meter.specs.Time.{is_time}
-use Rattle.meter.specs.Lent.{reads, said_written, Writes}
+use Rattle.std.specs.declared.option.Option.TheVariants.{Some, None}
+use Rattle.std.specs.declared.option.Option.{Option}
+use Rattle.std.specs.declared.result.Result.{Result}
+use Rattle.calendar.specs.declared.Refusal.{Refusal}
 use Rattle.meter.specs.declared.time.Time.{Time}
-use Rattle.meter.specs.declared.time.Time.TheVariants as T
+use Rattle.meter.specs.Instant as T
+use Rattle.calendar.specs.Said.{said}
+use Rattle.meter.specs.Time.{is_time}
+use Rattle.meter.specs.Lent.{reads, Writes}
 use Rattle.meter.specs.declared.general.Moment.{Moment}
-use Rattle.meter.specs.declared.general.General.{General}
-use Rattle.meter.specs.declared.general.General.TheVariants as G
-use Rattle.meter.specs.declared.general.GeneralRead.{GeneralRead}
-use Rattle.meter.specs.declared.general.GeneralRead.TheVariants as R
 
 -- how many digits stand before the Z: 14, or 17 with the millisecond
 abbrev pub digits_of : Bool → ℕ
@@ -73,17 +73,12 @@ is_moment t =
 abbrev pub is_general : ℕ → List ℕ → ℕ → Bool
 is_general n a i = is_none n a i || (is_digits n a i && is_moment (moment_at n a i))
 
-abbrev pub general_at : ℕ → List ℕ → ℕ → General
-general_at n a i = cond (is_none n a i) G.Undefined (G.At (moment_at n a i))
+abbrev pub general_at : ℕ → List ℕ → ℕ → Option Moment
+general_at n a i = cond (is_none n a i) None (Some (moment_at n a i))
 
 -- THE READER
-abbrev pub general_read_at : Bool → List ℕ → ℕ → Said General
+abbrev pub general_read_at : Bool → List ℕ → ℕ → Said (Option Moment)
 general_read_at long a at = reads a at (digits_of long + 1) (is_general (digits_of long) a at) (general_at (digits_of long) a at)
-
--- what an answer says
-abbrev pub said_general : GeneralRead → Said General
-said_general (R.Time t) = answer t
-said_general (R.Refused r) = refused r
 
 -- ---- writing, at the start of the room
 -- a with the last n digits of v from i on
@@ -120,14 +115,14 @@ put_x a (suc n) = put_x (set a n 120) n
 abbrev pub put_none : ℕ → List ℕ → List ℕ
 put_none n a = set (put_x a n) n 90
 
-abbrev pub put_general : ℕ → List ℕ → General → List ℕ
-put_general n a G.Undefined = put_none n a
-put_general n a (G.At t) = put_moment n a t
+abbrev pub put_general : ℕ → List ℕ → Option Moment → List ℕ
+put_general n a None = put_none n a
+put_general n a (Some t) = put_moment n a t
 
 -- what can be written: a moment, and with no millisecond in the short form
-abbrev pub fits_general : Bool → General → Bool
-fits_general long G.Undefined = true
-fits_general long (G.At t) = is_moment t && (long || eqb t.milli 0)
+abbrev pub fits_general : Bool → Option Moment → Bool
+fits_general long None = true
+fits_general long (Some t) = is_moment t && (long || eqb t.milli 0)
 
 -- ---- a day and millisecond, and the moment that they are
 -- the minute of the day; the extra second is in the last one
@@ -141,35 +136,35 @@ moment_of day ms =
 unfoldable pub milli_of : Moment → ℕ
 milli_of t = ((t.hour * 60 + t.minute) * 60 + t.second) * 1000 + t.milli
 
-abbrev pub general_of : Time → General
-general_of T.Undefined = G.Undefined
-general_of (T.At day ms) = G.At (moment_of day ms)
+abbrev pub general_of : Option Time → Option Moment
+general_of None = None
+general_of (Some t) = Some (moment_of t.day t.milli)
 
-abbrev pub time_of_general : General → Time
-time_of_general G.Undefined = T.Undefined
-time_of_general (G.At t) = T.At (days_to t.date) (milli_of t)
+abbrev pub time_of_general : Option Moment → Option Time
+time_of_general None = None
+time_of_general (Some t) = T.At (days_to t.date) (milli_of t)
 
 -- undefined, or a moment of days 0 to 65535
-abbrev pub has_time : General → Bool
-has_time G.Undefined = true
-has_time (G.At t) = has_day t.date
+abbrev pub has_time : Option Moment → Bool
+has_time None = true
+has_time (Some t) = has_day t.date
 
 -- a moment outside those days is refused
-abbrev pub time_of_moment : General → Said Time
+abbrev pub time_of_moment : Option Moment → Said (Option Time)
 time_of_moment g = cond (has_time g) (answer (time_of_general g)) (refusal 21 0)
 
 -- THE READER of long text: malformed, or a date outside days 0..65535, is refused 21
-abbrev pub text_time_at : List ℕ → ℕ → Said Time
+abbrev pub text_time_at : List ℕ → ℕ → Said (Option Time)
 text_time_at a at = reads a at 18 (is_general 17 a at && has_time (general_at 17 a at)) (time_of_general (general_at 17 a at))
 
 -- THE WRITER of text
-abbrev pub WritesGeneral : List ℕ → Bool → General → Written → List ℕ → Type 0
+abbrev pub WritesGeneral : List ℕ → Bool → Option Moment → Result ℕ Refusal → List ℕ → Type 0
 WritesGeneral room long t r exit = Writes room (digits_of long + 1) (fits_general long t) (put_general (digits_of long) room t) r exit
 
 -- THE WRITER of a day and millisecond as long text
-abbrev pub WritesTimeText : List ℕ → Time → Written → List ℕ → Type 0
+abbrev pub WritesTimeText : List ℕ → Option Time → Result ℕ Refusal → List ℕ → Type 0
 WritesTimeText room t r exit = Writes room 18 (is_time t) (put_general 17 room (general_of t)) r exit
 
 -- AND WHAT IT WROTE READS BACK
-abbrev pub TimeTextBack : Time → Written → List ℕ → Type 0
-TimeTextBack t r exit = said_written r ≡ answer 18 → text_time_at exit 0 ≡ answer t
+abbrev pub TimeTextBack : Option Time → Result ℕ Refusal → List ℕ → Type 0
+TimeTextBack t r exit = said r ≡ answer 18 → text_time_at exit 0 ≡ answer t

@@ -3,13 +3,10 @@
 use Rattle.std.specs.Prelude.{ℕ, zero, suc, ◌+◌, ◌-◌, ◌*◌, ◌/◌, ◌%◌, ◌^◌, ◌<◌, Bool, cond, ◌&&◌, ◌||◌, List, eqb, ltb, leb, ℤ, pos, negsuc, get_or, set}
 use Rattle.std.proofs.Math.IntN.{sub_ℕ}
 use Rattle.std.specs.Int.Signed.{mag}
-use Rattle.calendar.specs.Said.{Said, answer, refused}
-use Rattle.meter.specs.declared.integer.Written.{Written}
+use Rattle.calendar.specs.Said.{Said}
+use Rattle.std.specs.declared.result.Result.{Result}
+use Rattle.calendar.specs.declared.Refusal.{Refusal}
 use Rattle.meter.specs.Lent.{reads, Writes}
-use Rattle.meter.specs.declared.integer.Unsigned.{Unsigned}
-use Rattle.meter.specs.declared.integer.Unsigned.TheVariants as U
-use Rattle.meter.specs.declared.integer.Signed.{Signed}
-use Rattle.meter.specs.declared.integer.Signed.TheVariants as S
 
 -- each is a byte, as each number of a lent slice is
 abbrev pub Bytes : List ℕ → Type 0
@@ -59,19 +56,10 @@ unsigned_at a at n = reads a at n (is_width n) (be_at a at n)
 abbrev pub signed_at : List ℕ → ℕ → ℕ → Said ℤ
 signed_at a at n = reads a at n (is_width n) (twos (half_of n) (be_at a at n))
 
--- what an answer says
-abbrev pub said_unsigned : Unsigned → Said ℕ
-said_unsigned (U.Value v) = answer v
-said_unsigned (U.Refused r) = refused r
-
-abbrev pub said_signed : Signed → Said ℤ
-said_signed (S.Value z) = answer z
-said_signed (S.Refused r) = refused r
-
 -- THE WRITERS
-abbrev pub WritesUnsigned : List ℕ → ℕ → ℕ → Written → List ℕ → Type 0
+abbrev pub WritesUnsigned : List ℕ → ℕ → ℕ → Result ℕ Refusal → List ℕ → Type 0
 WritesUnsigned room n v r exit = Writes room n (fits_unsigned n v) (stored room 0 n v) r exit
 
 -- in two's complement
-abbrev pub WritesSigned : List ℕ → ℕ → ℤ → Written → List ℕ → Type 0
+abbrev pub WritesSigned : List ℕ → ℕ → ℤ → Result ℕ Refusal → List ℕ → Type 0
 WritesSigned room n z r exit = Writes room n (fits_signed n z) (stored room 0 n (word_of z)) r exit

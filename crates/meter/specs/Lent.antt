@@ -1,9 +1,10 @@
 -- What leaf readers and writers answer, and what a lent room holds at exit (01, under the table of numbers: "Leaf readers check 20,
 -- then 21. Writers check 22 or 21, then 18. Refusals write nothing."). Assumes nothing.
 use Rattle.std.specs.Prelude.{ℕ, ◌+◌, ◌≡◌, Bool, cond, ◌&&◌, List, leb, length}
-use Rattle.calendar.specs.Said.{Said, answer, refusal, refused}
-use Rattle.meter.specs.declared.integer.Written.{Written}
-use Rattle.meter.specs.declared.integer.Written.TheVariants as W
+use Rattle.calendar.specs.Said.{Said, answer, refusal}
+use Rattle.std.specs.declared.result.Result.{Result}
+use Rattle.calendar.specs.declared.Refusal.{Refusal}
+use Rattle.calendar.specs.Said.{said}
 
 -- the n bytes from at on lie in a
 abbrev pub inside : List ℕ → ℕ → ℕ → Bool
@@ -21,11 +22,6 @@ writes room n right = cond right (cond (leb n (length room)) (answer n) (refusal
 abbrev pub wrote : List ℕ → ℕ → Bool → List ℕ → List ℕ
 wrote room n right new = cond (right && leb n (length room)) new room
 
--- what an answer says
-abbrev pub said_written : Written → Said ℕ
-said_written (W.Bytes n) = answer n
-said_written (W.Refused r) = refused r
-
 -- THE PROMISE of a writer of n bytes: what it answers, and the room at exit, which is `new` where nothing is refused
-abbrev pub Writes : List ℕ → ℕ → Bool → List ℕ → Written → List ℕ → Type 0
-Writes room n right new r exit = (said_written r ≡ writes room n right) × (exit ≡ wrote room n right new)
+abbrev pub Writes : List ℕ → ℕ → Bool → List ℕ → Result ℕ Refusal → List ℕ → Type 0
+Writes room n right new r exit = (said r ≡ writes room n right) × (exit ≡ wrote room n right new)

@@ -1,3 +1,5 @@
+pub mod Instant
+pub mod Numeral
 pub mod Lent
 pub mod Integer
 pub mod Time

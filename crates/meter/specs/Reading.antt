@@ -5,14 +5,17 @@ use Rattle.std.specs.Prelude.{ℕ, suc, ◌%◌, ◌^◌, ◌≡◌, Bool, cond,
 use Rattle.std.specs.Int.Signed.{quot_z}
 use Rattle.std.specs.Float.{binary64}
 use Rattle.std.specs.Float.Ieee.{div, of_int}
-use Rattle.calendar.specs.Said.{Said, answer, refusal, refused}
+use Rattle.calendar.specs.Said.{Said, answer, refusal}
 use Rattle.meter.specs.Scaled.{Fraction, is_scale, multiplied, stands_for}
+use Rattle.std.specs.declared.option.Option.TheVariants.{Some, None}
+use Rattle.std.specs.declared.result.Result.TheVariants.{Ok}
+use Rattle.std.specs.declared.option.Option.{Option}
+use Rattle.std.specs.declared.result.Result.{Result}
+use Rattle.calendar.specs.declared.Refusal.{Refusal}
 use Rattle.meter.specs.declared.scaled.Scaled.{Scaled}
-use Rattle.meter.specs.declared.scaled.Scaled.TheVariants as S
+use Rattle.meter.specs.Numeral as S
 use Rattle.meter.specs.declared.scaled.Reading.{Reading}
 use Rattle.meter.specs.declared.scaled.Reading.TheVariants as M
-use Rattle.meter.specs.declared.scaled.Shown.{Shown}
-use Rattle.meter.specs.declared.scaled.Shown.TheVariants as W
 
 -- one f64 division of two exactly converted integers
 abbrev pub quotient : ℤ → ℕ → Float
@@ -36,18 +39,13 @@ abbrev pub shown_as : Fraction → Float → Said Reading
 shown_as x v = cond (leb (nat_abs x.above) 0x20_0000_0000_0000) (answer (cond (is_whole x) (M.Whole v) (M.Between v))) (refusal 21 0)
 
 -- THE READING
-abbrev pub reading_of : Scaled → Said Reading
-reading_of S.Undefined = answer M.Missing
-reading_of (S.Number i s) = cond (is_scale s) (shown_as (stands_for i s) (carried i s)) (refusal 21 0)
+abbrev pub reading_of : Option Scaled → Said Reading
+reading_of None = answer M.Missing
+reading_of (Some t) = cond (is_scale t.scale) (shown_as (stands_for t.integer t.scale) (carried t.integer t.scale)) (refusal 21 0)
 
 -- THE EXACT CASE: the f64 of a reading that is whole is the whole number itself
 abbrev pub whole_of : Fraction → ℤ
 whole_of x = quot_z x.above (pos x.below)
 
-pub record ExactCase (x : Scaled) (r : Shown) : Type 0 where
-  pub exact : {i s : ℤ} {v : Float} → x ≡ S.Number i s → r ≡ W.Reading (M.Whole v) → v ≡ of_int binary64 (whole_of (stands_for i s))
-
--- what an answer says
-abbrev pub said_reading : Shown → Said Reading
-said_reading (W.Reading x) = answer x
-said_reading (W.Refused r) = refused r
+pub record ExactCase (x : Option Scaled) (r : Result Reading Refusal) : Type 0 where
+  pub exact : {i s : ℤ} {v : Float} → x ≡ S.Number i s → r ≡ Ok (M.Whole v) → v ≡ of_int binary64 (whole_of (stands_for i s))

@@ -3,14 +3,11 @@
 -- refusal 21 covers results out of range"). Over unbounded integers. Assumes nothing.
 use Rattle.std.specs.Prelude.{ℕ, ◌+◌, ◌-◌, ◌*◌, ◌/◌, ◌^◌, ◌≤◌, ◌<◌, ◌≡◌, Bool, false, cond, leb, ltb, ℤ, pos, negsuc, neg_ℤ, nat_abs}
 use Rattle.std.specs.Int.Signed.{mag}
-use Rattle.calendar.specs.Said.{Said, answer, refusal, refused}
+use Rattle.calendar.specs.Said.{Said, answer, refusal}
 use Rattle.meter.specs.Scaled.{Fraction, is_scale, stands_for}
+use Rattle.std.specs.declared.option.Option.TheVariants.{Some, None}
+use Rattle.std.specs.declared.option.Option.{Option}
 use Rattle.meter.specs.declared.scaled.Scaled.{Scaled}
-use Rattle.meter.specs.declared.scaled.Scaled.TheVariants as S
-use Rattle.meter.specs.declared.scaled.Decimal.{Decimal}
-use Rattle.meter.specs.declared.scaled.Decimal.TheVariants as D
-use Rattle.meter.specs.declared.scaled.Rounded.{Rounded}
-use Rattle.meter.specs.declared.scaled.Rounded.TheVariants as R
 
 -- the decimals that can be asked for: 0 to 15
 unfoldable pub is_decimals : ℤ → Bool
@@ -27,28 +24,23 @@ with_sign (pos n) r = pos r
 with_sign (negsuc n) r = neg_ℤ (pos r)
 
 -- a number that leaves the signed 64-bit range is refused
-unfoldable pub whole64 : ℤ → Said Decimal
-whole64 z = cond (ltb (mag z) 0x8000_0000_0000_0000) (answer (D.Whole z)) (refusal 21 0)
+unfoldable pub whole64 : ℤ → Said (Option ℤ)
+whole64 z = cond (ltb (mag z) 0x8000_0000_0000_0000) (answer (Some z)) (refusal 21 0)
 
-abbrev pub signed_of : ℤ → ℕ → Said Decimal
+abbrev pub signed_of : ℤ → ℕ → Said (Option ℤ)
 signed_of i r = whole64 (with_sign i r)
 
 -- the number times 10 ^ d, rounded
-abbrev pub nearest_to : Fraction → ℕ → Said Decimal
+abbrev pub nearest_to : Fraction → ℕ → Said (Option ℤ)
 nearest_to x d = signed_of x.above (near (nat_abs x.above * 10 ^ d) x.below)
 
 -- THE ROUNDING
-abbrev pub rounding : Scaled → ℕ → Said Decimal
-rounding S.Undefined d = answer D.Undefined
-rounding (S.Number i s) d = cond (is_scale s) (nearest_to (stands_for i s) d) (refusal 21 0)
+abbrev pub rounding : Option Scaled → ℕ → Said (Option ℤ)
+rounding None d = answer None
+rounding (Some t) d = cond (is_scale t.scale) (nearest_to (stands_for t.integer t.scale) d) (refusal 21 0)
 
-abbrev pub rounded_of : Scaled → ℤ → Said Decimal
+abbrev pub rounded_of : Option Scaled → ℤ → Said (Option ℤ)
 rounded_of x d = cond (is_decimals d) (rounding x (nat_abs d)) (refusal 21 0)
-
--- what an answer says
-abbrev pub said_rounded : Rounded → Said Decimal
-said_rounded (R.Decimal x) = answer x
-said_rounded (R.Refused r) = refused r
 
 -- ---- WHAT NEAREST MEANS, apart from how it is found
 abbrev pub distance : ℕ → ℕ → ℕ

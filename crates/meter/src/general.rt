@@ -1,15 +1,15 @@
 // Generalised times: 14 digits and Z, YYYYMMDDHHMMSSZ, or 17 with the millisecond, read and written; and short CDS times to
 // long text and back.
 ghost use Rattle.std.specs.Prelude.{◌≡◌, true, ◌+◌, ◌-◌, ◌≤◌, ◌<◌, length};
-ghost use Rattle.meter.specs.Time.{is_time, is_milli, said_time};
+ghost use Rattle.calendar.specs.Said.{said};
+ghost use Rattle.meter.specs.Time.{is_time, is_milli};
 ghost use Rattle.meter.specs.General.{digits_of, run_of, number_of, is_none, is_digits, moment_at, last_second, is_moment};
-ghost use Rattle.meter.specs.General.{general_read_at, said_general, fits_general, WritesGeneral};
+ghost use Rattle.meter.specs.General.{general_read_at, fits_general, WritesGeneral};
 ghost use Rattle.meter.specs.General.{put_digits, put_none, put_moment, put_general};
 ghost use Rattle.meter.specs.General.{minute_of, moment_of, milli_of, general_of, time_of_moment, text_time_at, WritesTimeText, TimeTextBack};
 
-use crate::integer::Written;
-use crate::time::{Time, TimeRead};
-use calendar::{Date, DayNumber, Refusal};
+use crate::time::Time;
+use calendar::{Date, Refusal, fault};
 
 #[derive(Clone, Copy)]
 pub struct Moment {
@@ -20,41 +20,20 @@ pub struct Moment {
     pub milli: u16,
 }
 
-#[derive(Clone, Copy)]
-pub enum General {
-    Undefined,
-    At(Moment),
-}
-
-#[derive(Clone, Copy)]
-pub enum GeneralRead {
-    Time(General),
-    Refused(Refusal),
-}
-
 fn digits(long: bool) -> usize
     ensures { result ≡ digits_of long }
 {
     if long { 17 } else { 14 }
 }
 
-// How many of the n bytes from `at` on are `lo` to `hi`, up to the first that is not.
-fn run(bytes: &[u8], at: usize, n: usize, lo: u8, hi: u8) -> usize
-    requires { at + n ≤ length bytes.now }
-    ensures { result ≡ run_of lo hi bytes.now at n }
+// How many of the bytes are `lo` to `hi`, up to the first that is not.
+pub fn run(bytes: &[u8], lo: u8, hi: u8) -> usize
+    ensures { (result ≡ run_of lo hi bytes.now 0 (length bytes.now)) × (result ≤ length bytes.now) }
 {
-    let mut j: usize = 0;
-    while j < n {
-        let b = bytes[at + j];
-        if b < lo {
-            return j;
-        }
-        if hi < b {
-            return j;
-        }
-        j += 1;
-    }
-    j
+    bytes
+        .iter()
+        .position(|b| *b < lo || hi < *b)
+        .unwrap_or(bytes.len())
 }
 
 fn digit(b: u64) -> u64
@@ -69,10 +48,8 @@ fn number(bytes: &[u8], at: usize, n: usize) -> u64
     ensures { result ≡ number_of bytes.now at n }
 {
     let mut v: u64 = 0;
-    let mut j: usize = 0;
-    while j < n {
-        v = v * 10 + digit(crate::integer::wide(bytes[at + j]));
-        j += 1;
+    for b in &bytes[at..at + n] {
+        v = v * 10 + digit(crate::integer::wide(*b));
     }
     v
 }
@@ -82,7 +59,7 @@ fn is_none(bytes: &[u8], at: usize, n: usize) -> bool
     requires { at + n < length bytes.now }
     ensures { result ≡ is_none n bytes.now at }
 {
-    if run(bytes, at, n, 120, 120) != n {
+    if run(&bytes[at..at + n], 120, 120) != n {
         return false;
     }
     if bytes[at + n] == 120 {
@@ -95,7 +72,7 @@ fn is_digits(bytes: &[u8], at: usize, n: usize) -> bool
     requires { at + n < length bytes.now }
     ensures { result ≡ is_digits n bytes.now at }
 {
-    if run(bytes, at, n, 48, 57) != n {
+    if run(&bytes[at..at + n], 48, 57) != n {
         return false;
     }
     bytes[at + n] == 90
@@ -150,33 +127,33 @@ fn is_moment(t: Moment) -> bool
     t.milli <= 999
 }
 
-pub fn read_general(bytes: &[u8], at: usize, long: bool) -> GeneralRead
-    ensures { said_general result ≡ general_read_at long bytes.now at }
+pub fn read_general(bytes: &[u8], at: usize, long: bool) -> Result<Option<Moment>, Refusal>
+    ensures { said result ≡ general_read_at long bytes.now at }
 {
     let n = digits(long);
     if !crate::integer::holds(bytes.len(), at, n + 1) {
-        return GeneralRead::Refused(Refusal {
-            number: 20,
+        return Err(Refusal {
+            number: fault::OUTSIDE,
             place: bytes.len(),
         });
     }
     if is_none(bytes, at, n) {
-        return GeneralRead::Time(General::Undefined);
+        return Ok(None);
     }
     if !is_digits(bytes, at, n) {
-        return GeneralRead::Refused(Refusal {
-            number: 21,
+        return Err(Refusal {
+            number: fault::MALFORMED,
             place: 0,
         });
     }
     let t = moment_at(bytes, at, n);
     if !is_moment(t) {
-        return GeneralRead::Refused(Refusal {
-            number: 21,
+        return Err(Refusal {
+            number: fault::MALFORMED,
             place: 0,
         });
     }
-    GeneralRead::Time(General::At(t))
+    Ok(Some(t))
 }
 
 // The last n digits of `v` from `at` on.
@@ -184,10 +161,8 @@ fn put_digits(room: &mut [u8], at: usize, n: usize, v: u64)
     requires { at + n ≤ length room.old }
     ensures { room.new ≡ put_digits room.old at n v }
 {
-    let mut i = n;
     let mut rest = v;
-    while 0 < i {
-        i -= 1;
+    for i in (0..n).rev() {
         room[at + i] = 48 + ((rest % 10) as u8);
         rest = rest / 10;
     }
@@ -213,31 +188,27 @@ fn put_none(room: &mut [u8], n: usize)
     requires { n < length room.old }
     ensures { room.new ≡ put_none n room.old }
 {
-    let mut i = n;
-    while 0 < i {
-        i -= 1;
-        room[i] = 120;
-    }
+    room[..n].fill(120);
     room[n] = 90;
 }
 
-fn put_general(room: &mut [u8], n: usize, time: General)
+fn put_general(room: &mut [u8], n: usize, time: Option<Moment>)
     requires { (14 ≤ n) × (n < length room.old) }
     ensures { room.new ≡ put_general n room.old time }
 {
     match time {
-        General::Undefined => put_none(room, n),
-        General::At(t) => put_moment(room, n, t),
+        None => put_none(room, n),
+        Some(t) => put_moment(room, n, t),
     }
 }
 
 // Whether a time can be written: a moment of the calendar, and with no millisecond in the short form.
-pub fn fits_general(long: bool, time: General) -> bool
+pub fn fits_general(long: bool, time: Option<Moment>) -> bool
     ensures { result ≡ fits_general long time }
 {
     match time {
-        General::Undefined => true,
-        General::At(t) => {
+        None => true,
+        Some(t) => {
             if !is_moment(t) {
                 return false;
             }
@@ -249,24 +220,24 @@ pub fn fits_general(long: bool, time: General) -> bool
     }
 }
 
-pub fn write_general(room: &mut [u8], long: bool, time: General) -> Written
+pub fn write_general(room: &mut [u8], long: bool, time: Option<Moment>) -> Result<usize, Refusal>
     ensures { WritesGeneral room.old long time result room.new }
 {
     let n = digits(long);
     if !fits_general(long, time) {
-        return Written::Refused(Refusal {
-            number: 21,
+        return Err(Refusal {
+            number: fault::MALFORMED,
             place: 0,
         });
     }
     if room.len() < n + 1 {
-        return Written::Refused(Refusal {
-            number: 18,
+        return Err(Refusal {
+            number: fault::ROOM,
             place: n + 1,
         });
     }
     put_general(room, n, time);
-    Written::Bytes(n + 1)
+    Ok(n + 1)
 }
 
 // The minute of the day; the extra second of a day that has one is in the last.
@@ -299,24 +270,24 @@ fn milli_of(t: Moment) -> u32
 }
 
 // A day and millisecond as the moment that they are.
-fn general_of(time: Time) -> General
+fn general_of(time: Option<Time>) -> Option<Moment>
     requires { is_time time ≡ true }
     ensures { (result ≡ general_of time) × (fits_general true result ≡ true) }
 {
     match time {
-        Time::Undefined => General::Undefined,
-        Time::At { day, milli } => General::At(moment_of(day, milli)),
+        None => None,
+        Some(t) => Some(moment_of(t.day, t.milli)),
     }
 }
 
 // A day and millisecond as long text.
-pub fn time_text(room: &mut [u8], time: Time) -> Written
+pub fn time_text(room: &mut [u8], time: Option<Time>) -> Result<usize, Refusal>
     ensures writes_time_text { WritesTimeText room.old time result room.new }
     ensures reads_back { TimeTextBack time result room.new }
 {
     if !crate::time::is_time(time) {
-        return Written::Refused(Refusal {
-            number: 21,
+        return Err(Refusal {
+            number: fault::MALFORMED,
             place: 0,
         });
     }
@@ -324,28 +295,22 @@ pub fn time_text(room: &mut [u8], time: Time) -> Written
 }
 
 // A moment as a day and millisecond, where it has a day number.
-fn time_of(general: General) -> TimeRead
-    ensures { said_time result ≡ time_of_moment general }
+fn time_of(general: Option<Moment>) -> Result<Option<Time>, Refusal>
+    ensures { said result ≡ time_of_moment general }
 {
-    let General::At(t) = general else {
-        return TimeRead::Time(Time::Undefined);
+    let Some(t) = general else {
+        return Ok(None);
     };
-    let date = t.date;
-    match calendar::day_number(date) {
-        DayNumber::Refused(r) => TimeRead::Refused(r),
-        DayNumber::Day(day) => TimeRead::Time(Time::At {
-            day,
-            milli: milli_of(t),
-        }),
-    }
+    let day = calendar::day_number(t.date)?;
+    Ok(Some(Time {
+        day,
+        milli: milli_of(t),
+    }))
 }
 
 // Long text as a day and millisecond; 21 also for a date outside days 0 to 65535.
-pub fn text_time(bytes: &[u8], at: usize) -> TimeRead
-    ensures { said_time result ≡ text_time_at bytes.now at }
+pub fn text_time(bytes: &[u8], at: usize) -> Result<Option<Time>, Refusal>
+    ensures { said result ≡ text_time_at bytes.now at }
 {
-    match read_general(bytes, at, true) {
-        GeneralRead::Refused(r) => TimeRead::Refused(r),
-        GeneralRead::Time(general) => time_of(general),
-    }
+    time_of(read_general(bytes, at, true)?)
 }

@@ -1,29 +1,11 @@
 // Big-endian integers of 2, 4 and 8 bytes, signed and unsigned: read at an offset of lent bytes, written to lent room.
 ghost use Rattle.std.specs.Prelude.{◌≡◌, true, ◌+◌, ◌^◌, ◌≤◌, ◌<◌, leb, length, nat_abs};
+ghost use Rattle.calendar.specs.Said.{said};
 ghost use Rattle.meter.specs.Lent.{Writes};
 ghost use Rattle.meter.specs.Integer.{be_at, stored, twos, word_of, is_width, top_of, half_of, fits_unsigned, fits_signed};
-ghost use Rattle.meter.specs.Integer.{said_unsigned, unsigned_at, said_signed, signed_at, WritesUnsigned, WritesSigned};
+ghost use Rattle.meter.specs.Integer.{unsigned_at, signed_at, WritesUnsigned, WritesSigned};
 
-use calendar::Refusal;
-
-#[derive(Clone, Copy)]
-pub enum Unsigned {
-    Value(u64),
-    Refused(Refusal),
-}
-
-#[derive(Clone, Copy)]
-pub enum Signed {
-    Value(i64),
-    Refused(Refusal),
-}
-
-// How many bytes were written, from the start of the lent room.
-#[derive(Clone, Copy)]
-pub enum Written {
-    Bytes(usize),
-    Refused(Refusal),
-}
+use calendar::{Refusal, fault};
 
 pub(crate) fn wide(x: u8) -> u64
     ensures { result ≡ x }
@@ -35,10 +17,7 @@ pub(crate) fn wide(x: u8) -> u64
 pub fn holds(len: usize, at: usize, n: usize) -> bool
     ensures { result ≡ leb (at + n) len }
 {
-    if len < at {
-        return false;
-    }
-    n <= len - at
+    at <= len && n <= len - at
 }
 
 // The number in the n bytes from `at` on.
@@ -47,10 +26,8 @@ pub(crate) fn be(bytes: &[u8], at: usize, n: usize) -> u64
     ensures { result ≡ be_at bytes.now at n }
 {
     let mut v: u64 = 0;
-    let mut i: usize = 0;
-    while i < n {
-        v = v * 256 + wide(bytes[at + i]);
-        i += 1;
+    for b in &bytes[at..at + n] {
+        v = v * 256 + wide(*b);
     }
     v
 }
@@ -60,24 +37,10 @@ pub(crate) fn put_be(room: &mut [u8], at: usize, n: usize, v: u64)
     requires { at + n ≤ length room.old }
     ensures { room.new ≡ stored room.old at n v }
 {
-    let mut i = n;
     let mut rest = v;
-    while 0 < i {
-        i -= 1;
+    for i in (0..n).rev() {
         room[at + i] = (rest % 256) as u8;
         rest = rest / 256;
-    }
-}
-
-// The size of a signed number.
-pub(crate) fn size_of(z: i64) -> u64
-    ensures { result ≡ nat_abs z }
-{
-    if z < 0 {
-        let m = -1 - z;
-        (m as u64) + 1
-    } else {
-        z as u64
     }
 }
 
@@ -106,90 +69,70 @@ pub(crate) fn signed_of(v: u64, half: u64) -> i64
     }
 }
 
+#[tactic(auto, unfolding(crate::specs::Integer::is_width))]
 pub(crate) fn is_width(width: usize) -> bool
     ensures { result ≡ is_width width }
 {
-    if width == 2 {
-        return true;
-    }
-    if width == 4 {
-        return true;
-    }
-    width == 8
+    matches!(width, 2 | 4 | 8)
 }
 
 // The greatest number of a width.
+#[tactic(auto, unfolding(crate::specs::Integer::is_width, crate::specs::Integer::top_of))]
 pub(crate) fn top(width: usize) -> u64
     requires { is_width width ≡ true }
     ensures { result ≡ top_of width }
 {
-    if width == 2 {
-        return 0xffff;
+    match width {
+        2 => 0xffff,
+        4 => 0xffff_ffff,
+        _ => 0xffff_ffff_ffff_ffff,
     }
-    if width == 4 {
-        return 0xffff_ffff;
-    }
-    0xffff_ffff_ffff_ffff
 }
 
 // Half of the numbers of a width.
+#[tactic(auto, unfolding(crate::specs::Integer::is_width, crate::specs::Integer::half_of))]
 pub(crate) fn half(width: usize) -> u64
     requires { is_width width ≡ true }
     ensures { result ≡ half_of width }
 {
-    if width == 2 {
-        return 0x8000;
+    match width {
+        2 => 0x8000,
+        4 => 0x8000_0000,
+        _ => 0x8000_0000_0000_0000,
     }
-    if width == 4 {
-        return 0x8000_0000;
-    }
-    0x8000_0000_0000_0000
 }
 
-pub fn read_unsigned(bytes: &[u8], at: usize, width: usize) -> Unsigned
-    ensures { said_unsigned result ≡ unsigned_at bytes.now at width }
+pub fn read_unsigned(bytes: &[u8], at: usize, width: usize) -> Result<u64, Refusal>
+    ensures { said result ≡ unsigned_at bytes.now at width }
 {
     if !holds(bytes.len(), at, width) {
-        return Unsigned::Refused(Refusal {
-            number: 20,
+        return Err(Refusal {
+            number: fault::OUTSIDE,
             place: bytes.len(),
         });
     }
     if !is_width(width) {
-        return Unsigned::Refused(Refusal {
-            number: 21,
+        return Err(Refusal {
+            number: fault::MALFORMED,
             place: 0,
         });
     }
-    Unsigned::Value(be(bytes, at, width))
+    Ok(be(bytes, at, width))
 }
 
-pub fn read_signed(bytes: &[u8], at: usize, width: usize) -> Signed
-    ensures { said_signed result ≡ signed_at bytes.now at width }
+pub fn read_signed(bytes: &[u8], at: usize, width: usize) -> Result<i64, Refusal>
+    ensures { said result ≡ signed_at bytes.now at width }
 {
-    if !holds(bytes.len(), at, width) {
-        return Signed::Refused(Refusal {
-            number: 20,
-            place: bytes.len(),
-        });
-    }
-    if !is_width(width) {
-        return Signed::Refused(Refusal {
-            number: 21,
-            place: 0,
-        });
-    }
-    Signed::Value(signed_of(be(bytes, at, width), half(width)))
+    let word = read_unsigned(bytes, at, width)?;
+    Ok(signed_of(word, half(width)))
 }
 
 // `v` fits the width.
+#[tactic(auto, unfolding(crate::specs::Integer::fits_unsigned))]
 fn fits_unsigned(width: usize, v: u64) -> bool
     ensures { result ≡ fits_unsigned width v }
 {
-    if !is_width(width) {
-        return false;
-    }
-    v <= top(width)
+    is_width(width) && v <= top(width)
 }
 
 fn fits_signed(width: usize, z: i64) -> bool
@@ -200,38 +143,43 @@ fn fits_signed(width: usize, z: i64) -> bool
     }
     let h = half(width);
     if z < 0 {
-        return size_of(z) <= h;
+        return z.unsigned_abs() <= h;
     }
-    size_of(z) < h
+    z.unsigned_abs() < h
 }
 
 // The n low bytes of `word` at the start of the room, where what is to be written is right and the room is large enough.
-pub(crate) fn write_word(room: &mut [u8], n: usize, right: bool, word: u64) -> Written
+pub(crate) fn write_word(
+    room: &mut [u8],
+    n: usize,
+    right: bool,
+    word: u64,
+) -> Result<usize, Refusal>
     ensures { Writes room.old n right (stored room.old 0 n word) result room.new }
 {
     if !right {
-        return Written::Refused(Refusal {
-            number: 21,
+        return Err(Refusal {
+            number: fault::MALFORMED,
             place: 0,
         });
     }
     if room.len() < n {
-        return Written::Refused(Refusal {
-            number: 18,
+        return Err(Refusal {
+            number: fault::ROOM,
             place: n,
         });
     }
     put_be(room, 0, n, word);
-    Written::Bytes(n)
+    Ok(n)
 }
 
-pub fn write_unsigned(room: &mut [u8], width: usize, value: u64) -> Written
+pub fn write_unsigned(room: &mut [u8], width: usize, value: u64) -> Result<usize, Refusal>
     ensures { WritesUnsigned room.old width value result room.new }
 {
     write_word(room, width, fits_unsigned(width, value), value)
 }
 
-pub fn write_signed(room: &mut [u8], width: usize, value: i64) -> Written
+pub fn write_signed(room: &mut [u8], width: usize, value: i64) -> Result<usize, Refusal>
     ensures { WritesSigned room.old width value result room.new }
 {
     write_word(room, width, fits_signed(width, value), bits_of(value))

@@ -1,39 +1,20 @@
 // Scaled numbers: a signed scale byte s and an integer I of 2, 4 or 8 bytes stand for I / 10^s, which is I * 10^-s where s is below 0.
 // Read, written, rounded to decimals, and shown by a meter.
 ghost use Rattle.std.specs.Prelude.{◌≡◌, true, false, ◌+◌, ◌*◌, ◌^◌, ◌≤◌, ◌<◌, leb, length, nat_abs};
+ghost use Rattle.calendar.specs.Said.{said};
 ghost use Rattle.meter.specs.Integer.{is_width, twos, word_of};
 ghost use Rattle.meter.specs.Scaled.{is_scale, divided, multiplied, stands_for};
-ghost use Rattle.meter.specs.Scaled.{none_of, is_none_word, defined_of, scaled_read_at, said_scaled};
+ghost use Rattle.meter.specs.Scaled.{none_of, is_none_word, defined_of, scaled_read_at};
 ghost use Rattle.meter.specs.Scaled.{fits_defined, WritesParts, WritesScaled};
-ghost use Rattle.meter.specs.Rounding.{is_decimals, near, signed_of, nearest_to, rounded_of, said_rounded};
-ghost use Rattle.meter.specs.Reading.{quotient, converted, carried, shown_as, reading_of, said_reading, ExactCase};
+ghost use Rattle.meter.specs.Rounding.{is_decimals, near, signed_of, nearest_to, rounded_of};
+ghost use Rattle.meter.specs.Reading.{quotient, converted, carried, shown_as, reading_of, ExactCase};
 
-use crate::integer::Written;
-use calendar::Refusal;
-
-#[derive(Clone, Copy)]
-pub enum Scaled {
-    Undefined,
-    Number { integer: i64, scale: i8 },
-}
+use calendar::{Refusal, fault};
 
 #[derive(Clone, Copy)]
-pub enum ScaledRead {
-    Scaled(Scaled),
-    Refused(Refusal),
-}
-
-// A number of units of the last decimal kept.
-#[derive(Clone, Copy)]
-pub enum Decimal {
-    Undefined,
-    Whole(i64),
-}
-
-#[derive(Clone, Copy)]
-pub enum Rounded {
-    Decimal(Decimal),
-    Refused(Refusal),
+pub struct Scaled {
+    pub integer: i64,
+    pub scale: i8,
 }
 
 // What a meter shows.
@@ -42,12 +23,6 @@ pub enum Reading {
     Missing,
     Whole(f64),
     Between(f64),
-}
-
-#[derive(Clone, Copy)]
-pub enum Shown {
-    Reading(Reading),
-    Refused(Refusal),
 }
 
 const POWERS: [u64; 16] = [
@@ -89,7 +64,7 @@ fn is_decimals(decimals: i8) -> bool
 fn exponent_of(decimals: i8) -> usize
     ensures { result ≡ nat_abs decimals }
 {
-    crate::integer::size_of(decimals as i64) as usize
+    decimals.unsigned_abs() as usize
 }
 
 fn is_scale(scale: i8) -> bool
@@ -126,50 +101,55 @@ fn is_none_word(width: usize, signed: bool, word: u64) -> bool
 }
 
 // A defined integer by its bytes' number.
-fn defined(width: usize, signed: bool, word: u64, scale: i8) -> ScaledRead
+fn defined(width: usize, signed: bool, word: u64, scale: i8) -> Result<Option<Scaled>, Refusal>
     requires { (is_width width ≡ true) × (word < 256 ^ width) }
-    ensures { said_scaled result ≡ defined_of signed width word scale }
+    ensures { said result ≡ defined_of signed width word scale }
 {
     if !is_scale(scale) {
-        return ScaledRead::Refused(Refusal {
-            number: 21,
+        return Err(Refusal {
+            number: fault::MALFORMED,
             place: 0,
         });
     }
     if signed {
         let integer = crate::integer::signed_of(word, crate::integer::half(width));
-        return ScaledRead::Scaled(Scaled::Number { integer, scale });
+        return Ok(Some(Scaled { integer, scale }));
     }
     if word > 0x7fff_ffff_ffff_ffff {
-        return ScaledRead::Refused(Refusal {
-            number: 21,
+        return Err(Refusal {
+            number: fault::MALFORMED,
             place: 0,
         });
     }
-    ScaledRead::Scaled(Scaled::Number {
+    Ok(Some(Scaled {
         integer: word as i64,
         scale,
-    })
+    }))
 }
 
-pub fn read_scaled(bytes: &[u8], at: usize, width: usize, signed: bool) -> ScaledRead
-    ensures { said_scaled result ≡ scaled_read_at signed width bytes.now at }
+pub fn read_scaled(
+    bytes: &[u8],
+    at: usize,
+    width: usize,
+    signed: bool,
+) -> Result<Option<Scaled>, Refusal>
+    ensures { said result ≡ scaled_read_at signed width bytes.now at }
 {
     if !holds_scaled(bytes.len(), at, width) {
-        return ScaledRead::Refused(Refusal {
-            number: 20,
+        return Err(Refusal {
+            number: fault::OUTSIDE,
             place: bytes.len(),
         });
     }
     if !crate::integer::is_width(width) {
-        return ScaledRead::Refused(Refusal {
-            number: 21,
+        return Err(Refusal {
+            number: fault::MALFORMED,
             place: 0,
         });
     }
     let word = crate::integer::be(bytes, at + 1, width);
     if is_none_word(width, signed, word) {
-        return ScaledRead::Scaled(Scaled::Undefined);
+        return Ok(None);
     }
     defined(width, signed, word, scale_of(bytes[at]))
 }
@@ -182,7 +162,7 @@ fn fits_defined(width: usize, signed: bool, integer: i64, scale: i8) -> bool
     if !is_scale(scale) {
         return false;
     }
-    let size = crate::integer::size_of(integer);
+    let size = integer.unsigned_abs();
     if signed {
         return size < crate::integer::half(width);
     }
@@ -204,42 +184,53 @@ fn none_bits(width: usize, signed: bool) -> u64
 }
 
 // A scale byte and n bytes of an integer, where they are right and the room is large enough.
-fn write_parts(room: &mut [u8], n: usize, right: bool, scale: u64, word: u64) -> Written
+fn write_parts(
+    room: &mut [u8],
+    n: usize,
+    right: bool,
+    scale: u64,
+    word: u64,
+) -> Result<usize, Refusal>
     requires { n ≤ 8 }
     ensures { WritesParts room.old n right scale word result room.new }
 {
     if !right {
-        return Written::Refused(Refusal {
-            number: 21,
+        return Err(Refusal {
+            number: fault::MALFORMED,
             place: 0,
         });
     }
     if room.len() < 1 + n {
-        return Written::Refused(Refusal {
-            number: 18,
+        return Err(Refusal {
+            number: fault::ROOM,
             place: 1 + n,
         });
     }
     crate::integer::put_be(room, 0, 1, scale);
     crate::integer::put_be(room, 1, n, word);
-    Written::Bytes(1 + n)
+    Ok(1 + n)
 }
 
-pub fn write_scaled(room: &mut [u8], width: usize, signed: bool, number: Scaled) -> Written
+pub fn write_scaled(
+    room: &mut [u8],
+    width: usize,
+    signed: bool,
+    number: Option<Scaled>,
+) -> Result<usize, Refusal>
     ensures { WritesScaled room.old signed width number result room.new }
 {
     if !crate::integer::is_width(width) {
-        return Written::Refused(Refusal {
-            number: 21,
+        return Err(Refusal {
+            number: fault::MALFORMED,
             place: 0,
         });
     }
     match number {
-        Scaled::Undefined => write_parts(room, width, true, 0, none_bits(width, signed)),
-        Scaled::Number { integer, scale } => {
-            let right = fits_defined(width, signed, integer, scale);
-            let low = crate::integer::bits_of(scale as i64);
-            write_parts(room, width, right, low, crate::integer::bits_of(integer))
+        None => write_parts(room, width, true, 0, none_bits(width, signed)),
+        Some(n) => {
+            let right = fits_defined(width, signed, n.integer, n.scale);
+            let low = crate::integer::bits_of(n.scale as i64);
+            write_parts(room, width, right, low, crate::integer::bits_of(n.integer))
         }
     }
 }
@@ -255,35 +246,35 @@ fn near_to(m: u64, p: u64) -> u64
 }
 
 // `size` with the sign of `integer`, where that is a signed 64-bit number.
-fn with_sign(integer: i64, size: u64) -> Rounded
+fn with_sign(integer: i64, size: u64) -> Result<Option<i64>, Refusal>
     requires { size ≤ 2 ^ 63 }
-    ensures { said_rounded result ≡ signed_of integer size }
+    ensures { said result ≡ signed_of integer size }
 {
     if integer < 0 {
         if size == 0 {
-            return Rounded::Decimal(Decimal::Whole(0));
+            return Ok(Some(0));
         }
         let m = size - 1;
-        return Rounded::Decimal(Decimal::Whole(-1 - (m as i64)));
+        return Ok(Some(-1 - (m as i64)));
     }
     if size > 0x7fff_ffff_ffff_ffff {
-        return Rounded::Refused(Refusal {
-            number: 21,
+        return Err(Refusal {
+            number: fault::MALFORMED,
             place: 0,
         });
     }
-    Rounded::Decimal(Decimal::Whole(size as i64))
+    Ok(Some(size as i64))
 }
 
 // `size` * 10^exponent with the sign of `integer`. The product is tested before it is made, so 64 bits are enough.
-fn grown(integer: i64, size: u64, exponent: usize) -> Rounded
+fn grown(integer: i64, size: u64, exponent: usize) -> Result<Option<i64>, Refusal>
     requires { exponent ≤ 15 }
-    ensures { said_rounded result ≡ signed_of integer (size * 10 ^ exponent) }
+    ensures { said result ≡ signed_of integer (size * 10 ^ exponent) }
 {
     let t = power(exponent);
     if size > 0x8000_0000_0000_0000 / t {
-        return Rounded::Refused(Refusal {
-            number: 21,
+        return Err(Refusal {
+            number: fault::MALFORMED,
             place: 0,
         });
     }
@@ -291,11 +282,11 @@ fn grown(integer: i64, size: u64, exponent: usize) -> Rounded
 }
 
 // I / 10^s times 10^d to the nearest whole number: one of the two powers cancels the other.
-fn nearest_quotient(integer: i64, d: usize, s: usize) -> Rounded
+fn nearest_quotient(integer: i64, d: usize, s: usize) -> Result<Option<i64>, Refusal>
     requires { (d ≤ 15) × (s ≤ 15) }
-    ensures { said_rounded result ≡ nearest_to (divided integer s) d }
+    ensures { said result ≡ nearest_to (divided integer s) d }
 {
-    let m = crate::integer::size_of(integer);
+    let m = integer.unsigned_abs();
     if s <= d {
         return grown(integer, m, d - s);
     }
@@ -304,15 +295,15 @@ fn nearest_quotient(integer: i64, d: usize, s: usize) -> Rounded
 }
 
 // I * 10^k times 10^d, which is whole: two products, each tested before it is made.
-fn nearest_product(integer: i64, d: usize, k: usize) -> Rounded
+fn nearest_product(integer: i64, d: usize, k: usize) -> Result<Option<i64>, Refusal>
     requires { (d ≤ 15) × (k ≤ 15) }
-    ensures { said_rounded result ≡ nearest_to (multiplied integer k) d }
+    ensures { said result ≡ nearest_to (multiplied integer k) d }
 {
-    let m = crate::integer::size_of(integer);
+    let m = integer.unsigned_abs();
     let p = power(k);
     if m > 0x8000_0000_0000_0000 / p {
-        return Rounded::Refused(Refusal {
-            number: 21,
+        return Err(Refusal {
+            number: fault::MALFORMED,
             place: 0,
         });
     }
@@ -320,9 +311,9 @@ fn nearest_product(integer: i64, d: usize, k: usize) -> Rounded
 }
 
 // By the sign of the scale.
-fn nearest(integer: i64, scale: i8, d: usize) -> Rounded
+fn nearest(integer: i64, scale: i8, d: usize) -> Result<Option<i64>, Refusal>
     requires { (is_scale scale ≡ true) × (d ≤ 15) }
-    ensures { said_rounded result ≡ nearest_to (stands_for integer scale) d }
+    ensures { said result ≡ nearest_to (stands_for integer scale) d }
 {
     if scale < 0 {
         return nearest_product(integer, d, exponent_of(scale));
@@ -330,70 +321,66 @@ fn nearest(integer: i64, scale: i8, d: usize) -> Rounded
     nearest_quotient(integer, d, exponent_of(scale))
 }
 
-pub fn round_to(number: Scaled, decimals: i8) -> Rounded
-    ensures { said_rounded result ≡ rounded_of number decimals }
+pub fn round_to(number: Option<Scaled>, decimals: i8) -> Result<Option<i64>, Refusal>
+    ensures { said result ≡ rounded_of number decimals }
 {
     if !is_decimals(decimals) {
-        return Rounded::Refused(Refusal {
-            number: 21,
+        return Err(Refusal {
+            number: fault::MALFORMED,
             place: 0,
         });
     }
     match number {
-        Scaled::Undefined => Rounded::Decimal(Decimal::Undefined),
-        Scaled::Number { integer, scale } => {
-            if !is_scale(scale) {
-                return Rounded::Refused(Refusal {
-                    number: 21,
-                    place: 0,
-                });
-            }
-            nearest(integer, scale, exponent_of(decimals))
-        }
+        None => Ok(None),
+        Some(n) if is_scale(n.scale) => nearest(n.integer, n.scale, exponent_of(decimals)),
+        Some(_) => Err(Refusal {
+            number: fault::MALFORMED,
+            place: 0,
+        }),
     }
 }
 
 // I / 10^s: one division of two numbers that an f64 holds exactly.
-fn show_quotient(integer: i64, s: usize) -> Shown
+fn show_quotient(integer: i64, s: usize) -> Result<Reading, Refusal>
     requires { s ≤ 15 }
-    ensures { said_reading result ≡ shown_as (divided integer s) (quotient integer s) }
+    ensures { said result ≡ shown_as (divided integer s) (quotient integer s) }
 {
-    let m = crate::integer::size_of(integer);
+    let m = integer.unsigned_abs();
     if m > 0x20_0000_0000_0000 {
-        return Shown::Refused(Refusal {
-            number: 21,
+        return Err(Refusal {
+            number: fault::MALFORMED,
             place: 0,
         });
     }
     let p = power(s);
     let q = (integer as f64) / (p as f64);
     if m % p == 0 {
-        Shown::Reading(Reading::Whole(q))
+        Ok(Reading::Whole(q))
     } else {
-        Shown::Reading(Reading::Between(q))
+        Ok(Reading::Between(q))
     }
 }
 
 // I * 10^k, which is whole: tested before it is made, and one conversion of a number that an f64 holds exactly.
-fn show_product(integer: i64, k: usize) -> Shown
+fn show_product(integer: i64, k: usize) -> Result<Reading, Refusal>
     requires { k ≤ 15 }
-    ensures { said_reading result ≡ shown_as (multiplied integer k) (converted integer k) }
+    ensures { said result ≡ shown_as (multiplied integer k) (converted integer k) }
 {
     let p = power(k);
-    if crate::integer::size_of(integer) > 0x20_0000_0000_0000 / p {
-        return Shown::Refused(Refusal {
-            number: 21,
+    if integer.unsigned_abs() > 0x20_0000_0000_0000 / p {
+        return Err(Refusal {
+            number: fault::MALFORMED,
             place: 0,
         });
     }
     let product = integer * (p as i64);
-    Shown::Reading(Reading::Whole(product as f64))
+    Ok(Reading::Whole(product as f64))
 }
 
 // By the sign of the scale.
-fn show_number(integer: i64, scale: i8) -> Shown
+fn show_number(integer: i64, scale: i8) -> Result<Reading, Refusal>
     requires { is_scale scale ≡ true }
-    ensures { said_reading result ≡ shown_as (stands_for integer scale) (carried integer scale) }
+    ensures { said result ≡ shown_as (stands_for integer scale) (carried integer scale) }
 {
     if scale < 0 {
         return show_product(integer, exponent_of(scale));
@@ -402,18 +389,16 @@ fn show_number(integer: i64, scale: i8) -> Shown
 }
 
 // The reading that a meter shows.
-pub fn reading_of(number: Scaled) -> Shown
-    ensures result_value { said_reading result ≡ reading_of number }
+pub fn reading_of(number: Option<Scaled>) -> Result<Reading, Refusal>
+    ensures result_value { said result ≡ reading_of number }
     ensures exact { ExactCase number result }
 {
-    let Scaled::Number { integer, scale } = number else {
-        return Shown::Reading(Reading::Missing);
-    };
-    if !is_scale(scale) {
-        return Shown::Refused(Refusal {
-            number: 21,
+    match number {
+        None => Ok(Reading::Missing),
+        Some(n) if is_scale(n.scale) => show_number(n.integer, n.scale),
+        Some(_) => Err(Refusal {
+            number: fault::MALFORMED,
             place: 0,
-        });
+        }),
     }
-    show_number(integer, scale)
 }

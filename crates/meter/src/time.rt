@@ -1,34 +1,16 @@
 // Short CDS times: the day from 1 January 2000 in 2 bytes, the millisecond of the day in 4.
 ghost use Rattle.std.specs.Prelude.{◌≡◌};
-ghost use Rattle.meter.specs.Time.{last_milli, is_milli, is_time, bits_of, time_read_at, said_time};
-ghost use Rattle.meter.specs.Time.{order_of, compared, said_order, WritesTime, TimeBack};
+ghost use Rattle.calendar.specs.Said.{said};
+ghost use Rattle.meter.specs.Time.{last_milli, is_milli, is_time, bits_of, time_read_at};
+ghost use Rattle.meter.specs.Time.{order_of, compared, WritesTime, TimeBack};
 
-use crate::integer::Written;
-use calendar::Refusal;
-
-#[derive(Clone, Copy)]
-pub enum Time {
-    Undefined,
-    At { day: u16, milli: u32 },
-}
+use calendar::{Refusal, fault};
+use std::cmp::Ordering;
 
 #[derive(Clone, Copy)]
-pub enum TimeRead {
-    Time(Time),
-    Refused(Refusal),
-}
-
-#[derive(Clone, Copy)]
-pub enum Order {
-    Before,
-    Same,
-    After,
-}
-
-#[derive(Clone, Copy)]
-pub enum TimeOrder {
-    Order(Order),
-    Refused(Refusal),
+pub struct Time {
+    pub day: u16,
+    pub milli: u32,
 }
 
 // All 48 bits one.
@@ -51,106 +33,74 @@ pub(crate) fn is_milli(day: u16, milli: u32) -> bool
     milli <= last_milli(day)
 }
 
-pub fn read_time(bytes: &[u8], at: usize) -> TimeRead
-    ensures { said_time result ≡ time_read_at bytes.now at }
+pub fn read_time(bytes: &[u8], at: usize) -> Result<Option<Time>, Refusal>
+    ensures { said result ≡ time_read_at bytes.now at }
 {
     if !crate::integer::holds(bytes.len(), at, 6) {
-        return TimeRead::Refused(Refusal {
-            number: 20,
+        return Err(Refusal {
+            number: fault::OUTSIDE,
             place: bytes.len(),
         });
     }
     let bits = crate::integer::be(bytes, at, 6);
     if bits == UNDEFINED {
-        return TimeRead::Time(Time::Undefined);
+        return Ok(None);
     }
     let day = (bits / 0x1_0000_0000) as u16;
     let milli = (bits % 0x1_0000_0000) as u32;
     if !is_milli(day, milli) {
-        return TimeRead::Refused(Refusal {
-            number: 21,
+        return Err(Refusal {
+            number: fault::MALFORMED,
             place: 0,
         });
     }
-    TimeRead::Time(Time::At { day, milli })
+    Ok(Some(Time { day, milli }))
 }
 
-pub(crate) fn is_time(time: Time) -> bool
+pub(crate) fn is_time(time: Option<Time>) -> bool
     ensures { result ≡ is_time time }
 {
     match time {
-        Time::Undefined => true,
-        Time::At { day, milli } => is_milli(day, milli),
+        None => true,
+        Some(t) => is_milli(t.day, t.milli),
     }
 }
 
 // The 48 bits of a time.
-fn time_bits(time: Time) -> u64
+fn time_bits(time: Option<Time>) -> u64
     ensures { result ≡ bits_of time }
 {
     match time {
-        Time::Undefined => UNDEFINED,
-        Time::At { day, milli } => (day as u64) * 0x1_0000_0000 + (milli as u64),
+        None => UNDEFINED,
+        Some(t) => (t.day as u64) * 0x1_0000_0000 + (t.milli as u64),
     }
 }
 
-pub fn write_time(room: &mut [u8], time: Time) -> Written
+pub fn write_time(room: &mut [u8], time: Option<Time>) -> Result<usize, Refusal>
     ensures writes_time { WritesTime room.old time result room.new }
     ensures reads_back { TimeBack time result room.new }
 {
     crate::integer::write_word(room, 6, is_time(time), time_bits(time))
 }
 
-// The order of two times that are defined and valid.
-fn in_order(day: u16, milli: u32, other_day: u16, other_milli: u32) -> Order
-    ensures { result ≡ order_of day milli other_day other_milli }
+// The order of two times that are defined and valid: by day, then by millisecond.
+fn in_order(time: Time, other: Time) -> Ordering
+    ensures { result ≡ order_of time.day time.milli other.day other.milli }
 {
-    if day < other_day {
-        return Order::Before;
-    }
-    if other_day < day {
-        return Order::After;
-    }
-    if milli < other_milli {
-        return Order::Before;
-    }
-    if other_milli < milli {
-        return Order::After;
-    }
-    Order::Same
+    time.day.cmp(&other.day).then(time.milli.cmp(&other.milli))
 }
 
 // By day, then by millisecond; 21 where either time is undefined or invalid.
-pub fn time_order(time: Time, other: Time) -> TimeOrder
-    ensures { said_order result ≡ compared time other }
+pub fn time_order(time: Option<Time>, other: Option<Time>) -> Result<Ordering, Refusal>
+    ensures { said result ≡ compared time other }
 {
-    let Time::At { day, milli } = time else {
-        return TimeOrder::Refused(Refusal {
-            number: 21,
+    match (time, other) {
+        (Some(t), Some(u)) if is_milli(t.day, t.milli) && is_milli(u.day, u.milli) => {
+            Ok(in_order(t, u))
+        }
+        _ => Err(Refusal {
+            number: fault::MALFORMED,
             place: 0,
-        });
-    };
-    let Time::At {
-        day: other_day,
-        milli: other_milli,
-    } = other
-    else {
-        return TimeOrder::Refused(Refusal {
-            number: 21,
-            place: 0,
-        });
-    };
-    if !is_milli(day, milli) {
-        return TimeOrder::Refused(Refusal {
-            number: 21,
-            place: 0,
-        });
+        }),
     }
-    if !is_milli(other_day, other_milli) {
-        return TimeOrder::Refused(Refusal {
-            number: 21,
-            place: 0,
-        });
-    }
-    TimeOrder::Order(in_order(day, milli, other_day, other_milli))
 }

@@ -3,14 +3,15 @@
 // of each kind agreed, and each disagreement whole.
 #![tactic(auto)]
 
-use calendar::{Date, DayNumber};
+use calendar::{Date, Refusal};
 use cases::answer::{Answer, judged, refused, tagged, value, written};
 use cases::counts::{Counts, counted, none, print_counts};
 use cases::input::{byte, fitting, is_same, part, read, word};
-use meter::general::{General, GeneralRead, Moment};
-use meter::integer::{Signed, Unsigned, Written};
-use meter::scaled::{Decimal, Reading, Rounded, Scaled, ScaledRead, Shown};
-use meter::time::{Order, Time, TimeOrder, TimeRead};
+use meter::general::Moment;
+use meter::integer::bits_of;
+use meter::scaled::{Reading, Scaled};
+use meter::time::Time;
+use std::cmp::Ordering;
 use std::io;
 use std::io::{Read, Write};
 
@@ -38,10 +39,7 @@ is_date         ";
 
 // ---- the numbers of a case
 fn integer(case: &[u8], at: usize) -> i64 {
-    match meter::integer::read_signed(case, at, 8) {
-        Signed::Value(v) => v,
-        Signed::Refused(_) => 0,
-    }
+    meter::integer::read_signed(case, at, 8).unwrap_or(0)
 }
 
 fn short(case: &[u8], at: usize) -> u16 {
@@ -57,15 +55,9 @@ fn small(b: u8) -> i8 {
     }
 }
 
-fn bits(v: i64) -> u64 {
-    let mut room = [0u8; 8];
-    meter::integer::write_signed(&mut room, 8, v);
-    word(&room, 0, 8)
-}
-
 // ---- answers: tag 2 is undefined or missing, 3 whole, 4 between
 fn scaled_value(v: i64, scale: i8) -> Answer {
-    value(bits(v), bits(scale as i64), 0)
+    value(bits_of(v), bits_of(i64::from(scale)), 0)
 }
 
 fn date_value(d: Date) -> Answer {
@@ -73,26 +65,25 @@ fn date_value(d: Date) -> Answer {
 }
 
 fn moment_value(t: Moment) -> Answer {
-    let d = t.date;
     let clock = (t.hour as u64) * 65536 + (t.minute as u64) * 256 + (t.second as u64);
     value(
-        d.year as u64,
-        (d.month as u64) * 256 + (d.day as u64),
+        t.date.year as u64,
+        (t.date.month as u64) * 256 + (t.date.day as u64),
         clock * 65536 + (t.milli as u64),
     )
 }
 
-fn time_value(t: Time) -> Answer {
+fn time_value(t: Option<Time>) -> Answer {
     match t {
-        Time::Undefined => tagged(2, true),
-        Time::At { day, milli } => value(day as u64, milli as u64, 0),
+        None => tagged(2, true),
+        Some(t) => value(t.day as u64, t.milli as u64, 0),
     }
 }
 
-fn time_read(r: TimeRead) -> Answer {
+fn time_read(r: Result<Option<Time>, Refusal>) -> Answer {
     match r {
-        TimeRead::Time(t) => time_value(t),
-        TimeRead::Refused(r) => refused(r, true),
+        Ok(t) => time_value(t),
+        Err(r) => refused(r, true),
     }
 }
 
@@ -120,17 +111,14 @@ fn width(case: &[u8]) -> usize {
     byte(case, 40) as usize
 }
 
-fn time_in(case: &[u8], at: usize) -> Time {
-    if at > 40 {
-        return Time::Undefined;
+fn time_in(case: &[u8], at: usize) -> Option<Time> {
+    if at > 40 || byte(case, at) == 1 {
+        return None;
     }
-    if byte(case, at) == 1 {
-        return Time::Undefined;
-    }
-    Time::At {
+    Some(Time {
         day: short(case, at + 1),
         milli: (word(case, at + 3, 4) % 0x1_0000_0000) as u32,
-    }
+    })
 }
 
 fn date_in(case: &[u8]) -> Date {
@@ -141,11 +129,11 @@ fn date_in(case: &[u8]) -> Date {
     }
 }
 
-fn general_in(case: &[u8]) -> General {
+fn general_in(case: &[u8]) -> Option<Moment> {
     if byte(case, 3) == 1 {
-        return General::Undefined;
+        return None;
     }
-    General::At(Moment {
+    Some(Moment {
         date: date_in(case),
         hour: byte(case, 8),
         minute: byte(case, 9),
@@ -154,100 +142,86 @@ fn general_in(case: &[u8]) -> General {
     })
 }
 
-fn scaled_in(case: &[u8]) -> Scaled {
+fn scaled_in(case: &[u8]) -> Option<Scaled> {
     if byte(case, 3) == 1 {
-        return Scaled::Undefined;
+        return None;
     }
-    Scaled::Number {
+    Some(Scaled {
         integer: integer(case, 4),
         scale: small(byte(case, 12)),
-    }
+    })
 }
 
 // ---- the cases, by their kinds
 fn run_read_unsigned(case: &[u8]) -> Answer {
     match meter::integer::read_unsigned(lent(case), offset(case), width(case)) {
-        Unsigned::Value(v) => value(v, 0, 0),
-        Unsigned::Refused(r) => refused(r, true),
+        Ok(v) => value(v, 0, 0),
+        Err(r) => refused(r, true),
     }
 }
 
 fn run_read_signed(case: &[u8]) -> Answer {
     match meter::integer::read_signed(lent(case), offset(case), width(case)) {
-        Signed::Value(v) => scaled_value(v, 0),
-        Signed::Refused(r) => refused(r, true),
+        Ok(v) => scaled_value(v, 0),
+        Err(r) => refused(r, true),
     }
 }
 
 fn run_order(case: &[u8]) -> Answer {
     match meter::time::time_order(time_in(case, 3), time_in(case, 13)) {
-        TimeOrder::Refused(r) => refused(r, true),
-        TimeOrder::Order(o) => match o {
-            Order::Before => value(0, 0, 0),
-            Order::Same => value(1, 0, 0),
-            Order::After => value(2, 0, 0),
-        },
+        Ok(Ordering::Less) => value(0, 0, 0),
+        Ok(Ordering::Equal) => value(1, 0, 0),
+        Ok(Ordering::Greater) => value(2, 0, 0),
+        Err(r) => refused(r, true),
     }
 }
 
 fn run_read_general(case: &[u8]) -> Answer {
     match meter::general::read_general(lent(case), offset(case), byte(case, 40) == 1) {
-        GeneralRead::Refused(r) => refused(r, true),
-        GeneralRead::Time(g) => match g {
-            General::Undefined => tagged(2, true),
-            General::At(t) => moment_value(t),
-        },
+        Ok(None) => tagged(2, true),
+        Ok(Some(t)) => moment_value(t),
+        Err(r) => refused(r, true),
     }
 }
 
 fn run_read_scaled(case: &[u8]) -> Answer {
     match meter::scaled::read_scaled(lent(case), offset(case), width(case), byte(case, 41) == 1) {
-        ScaledRead::Refused(r) => refused(r, true),
-        ScaledRead::Scaled(x) => match x {
-            Scaled::Undefined => tagged(2, true),
-            Scaled::Number { integer, scale } => scaled_value(integer, scale),
-        },
+        Ok(None) => tagged(2, true),
+        Ok(Some(x)) => scaled_value(x.integer, x.scale),
+        Err(r) => refused(r, true),
     }
 }
 
 fn run_round(case: &[u8]) -> Answer {
     match meter::scaled::round_to(scaled_in(case), small(byte(case, 13))) {
-        Rounded::Refused(r) => refused(r, true),
-        Rounded::Decimal(x) => match x {
-            Decimal::Undefined => tagged(2, true),
-            Decimal::Whole(m) => scaled_value(m, 0),
-        },
+        Ok(None) => tagged(2, true),
+        Ok(Some(m)) => scaled_value(m, 0),
+        Err(r) => refused(r, true),
     }
 }
 
 fn run_reading(case: &[u8]) -> Answer {
     match meter::scaled::reading_of(scaled_in(case)) {
-        Shown::Refused(r) => refused(r, true),
-        Shown::Reading(x) => match x {
-            Reading::Missing => tagged(2, true),
-            Reading::Whole(q) => float_value(case, 3, q),
-            Reading::Between(q) => float_value(case, 4, q),
-        },
+        Ok(Reading::Missing) => tagged(2, true),
+        Ok(Reading::Whole(q)) => float_value(case, 3, q),
+        Ok(Reading::Between(q)) => float_value(case, 4, q),
+        Err(r) => refused(r, true),
     }
 }
 
 fn run_day_number(case: &[u8]) -> Answer {
     match calendar::day_number(date_in(case)) {
-        DayNumber::Day(n) => value(n as u64, 0, 0),
-        DayNumber::Refused(r) => refused(r, true),
+        Ok(n) => value(n as u64, 0, 0),
+        Err(r) => refused(r, true),
     }
 }
 
 fn run_is_date(case: &[u8]) -> Answer {
-    if calendar::is_date(date_in(case)) {
-        value(1, 0, 0)
-    } else {
-        value(0, 0, 0)
-    }
+    value(u64::from(calendar::is_date(date_in(case))), 0, 0)
 }
 
 // What each writer writes into the lent room.
-fn write_into(case: &[u8], kind: u8, room: &mut [u8]) -> Written {
+fn write_into(case: &[u8], kind: u8, room: &mut [u8]) -> Result<usize, Refusal> {
     match kind {
         3 => meter::integer::write_unsigned(room, width(case), word(case, 4, 8)),
         4 => meter::integer::write_signed(room, width(case), integer(case, 4)),

@@ -1,6 +1,6 @@
 -- THE LINE OF MILLISECONDS: how many extra seconds there are before a day, by a test for each of request Two's days; the line has no hole and no millisecond
 -- twice, so its order is that of times; and the times of 48 bits stand below 2 ^ 43 on it. By induction on the day. Assumes nothing.
-use Prim.Native.Nat.{ℕ, zero, suc, ◌+◌, ◌-◌, ◌*◌, ◌/◌, ◌%◌, ◌≤◌, ◌<◌}
+use Prim.Native.Nat.{ℕ, zero, suc, ◌+◌, ◌-◌, ◌*◌, ◌/◌, ◌%◌, ◌≤◌, ◌<◌, max}
 use native.Mathlib.Decide.{ℕ_discrete, dec_lt}
 use native.Mathlib.Omega.{arith}
 use mathlib.Core.Path.{◌≡◌, refl, sym, ap, subst, ◌∙◌}
@@ -13,9 +13,11 @@ use lib.ListN.{get_or}
 use Rattle.calendar.specs.Calendar.{leap_day}
 use Rattle.meter.specs.Integer.{be_at}
 use Rattle.meter.specs.Time.{last_milli, time_of, time_at, order_of}
+use Rattle.std.specs.declared.option.Option.TheVariants.{Some, None}
+use Rattle.std.specs.declared.cmp.Ordering.TheVariants.{Less, Equal, Greater}
+use Rattle.std.specs.declared.option.Option.{Option}
 use Rattle.meter.specs.declared.time.Time.{Time}
-use Rattle.meter.specs.declared.time.Time.TheVariants as T
-use Rattle.meter.specs.declared.time.Order.TheVariants as O
+use Rattle.meter.specs.Instant as T
 use Rattle.meter.proofs.IntegerLaws.{be_at_lt}
 use Rattle.meter.proofs.TimeLaws.{bits_none, bits_some}
 use Rattle.moment.specs.Moment.{extra_before, on_line, gap_between, overlap_between, undefined_between}
@@ -93,10 +95,10 @@ later_day d m e n h l = omega (arith, next_day d, days_le (suc d) e h)
 -- ---- THE ORDER on the line is that of times, by day and then millisecond
 pub line_order :
     (d m e n : ℕ) → m ≤ last_milli d → n ≤ last_milli e
-    → order_of d m e n ≡ cond (ltb (on_line d m) (on_line e n)) O.Before (cond (ltb (on_line e n) (on_line d m)) O.After O.Same)
+    → order_of d m e n ≡ cond (ltb (on_line d m) (on_line e n)) Less (cond (ltb (on_line e n) (on_line d m)) Greater Equal)
 line_order d m e n p q = go (dec_lt d e) (dec_lt e d) (dec_lt m n) (dec_lt n m)
   where
-    go : Dec (d < e) → Dec (e < d) → Dec (m < n) → Dec (n < m) → order_of d m e n ≡ cond (ltb (on_line d m) (on_line e n)) O.Before (cond (ltb (on_line e n) (on_line d m)) O.After O.Same)
+    go : Dec (d < e) → Dec (e < d) → Dec (m < n) → Dec (n < m) → order_of d m e n ≡ cond (ltb (on_line d m) (on_line e n)) Less (cond (ltb (on_line e n) (on_line d m)) Greater Equal)
     go (yes h) b x y = rw (lt-ltb d e h, lt-ltb (on_line d m) (on_line e n) (later_day d m e n h p)) refl
     go (no g) (yes h) x y =
         let l = later_day e n d m h q in
@@ -121,19 +123,19 @@ unfolding extra_before
 gap_plain d e = rw e (omega arith)
 
 -- a pair has a gap or an overlap, not both
-pub gap_or_overlap : (t u : Time) → (gap_between t u ≡ 0) ⊎ (overlap_between t u ≡ 0)
-gap_or_overlap T.Undefined u = inl refl
-gap_or_overlap (T.At d m) T.Undefined = inl refl
-gap_or_overlap (T.At d m) (T.At e n) = go (dec_lt (on_line d m) (on_line e n))
+pub gap_or_overlap : (t u : Option Time) → (gap_between t u ≡ 0) ⊎ (overlap_between t u ≡ 0)
+gap_or_overlap None u = inl refl
+gap_or_overlap (Some t) None = inl refl
+gap_or_overlap (Some t) (Some u) = go (dec_lt (on_line t.day t.milli) (on_line u.day u.milli))
   where
-    go : Dec (on_line d m < on_line e n) → (on_line e n - on_line d m ≡ 0) ⊎ (on_line d m - on_line e n ≡ 0)
+    go : Dec (on_line t.day t.milli < on_line u.day u.milli) → (on_line u.day u.milli - on_line t.day t.milli ≡ 0) ⊎ (on_line t.day t.milli - on_line u.day u.milli ≡ 0)
     go (yes h) = inr (omega arith)
     go (no h) = inl (omega (arith, h))
 
 -- ---- the times of 48 bits
-abbrev pub Low : Time → Type 0
-Low T.Undefined = Unit
-Low (T.At d m) = on_line d m ≤ 8796093022208
+abbrev pub Low : Option Time → Type 0
+Low None = Unit
+Low (Some t) = on_line t.day t.milli ≤ 8796093022208
 
 pub low_bits : (bits : ℕ) → bits < 281474976710656 → Low (time_of bits)
 low_bits bits h = go (ℕ_discrete bits 0xffff_ffff_ffff)
@@ -142,20 +144,20 @@ low_bits bits h = go (ℕ_discrete bits 0xffff_ffff_ffff)
     go (yes e) = subst Low (sym (bits_none bits e)) tt
     go (no n) = subst Low (sym (bits_some bits n)) (omega (arith, extra_most (bits / 0x1_0000_0000)))
 
-pub gap_most : (t u : Time) → Low t → Low u → gap_between t u ≤ 8796093022208
-gap_most T.Undefined u p q = omega arith
-gap_most (T.At d m) T.Undefined p q = omega arith
-gap_most (T.At d m) (T.At e n) p q = omega arith
+pub gap_most : (t u : Option Time) → Low t → Low u → gap_between t u ≤ 8796093022208
+gap_most None u p q = omega arith
+gap_most (Some t) None p q = omega arith
+gap_most (Some t) (Some u) p q = omega arith
 
-pub overlap_most : (t u : Time) → Low t → Low u → overlap_between t u ≤ 8796093022208
-overlap_most T.Undefined u p q = omega arith
-overlap_most (T.At d m) T.Undefined p q = omega arith
-overlap_most (T.At d m) (T.At e n) p q = omega arith
+pub overlap_most : (t u : Option Time) → Low t → Low u → overlap_between t u ≤ 8796093022208
+overlap_most None u p q = omega arith
+overlap_most (Some t) None p q = omega arith
+overlap_most (Some t) (Some u) p q = omega arith
 
-pub undefined_most : (t u : Time) → Low t → Low u → undefined_between t u ≤ 8796093022208
-undefined_most T.Undefined u p q = omega arith
-undefined_most (T.At d m) T.Undefined p q = omega arith
-undefined_most (T.At d m) (T.At e n) p q = omega arith
+pub undefined_most : (t u : Option Time) → Low t → Low u → undefined_between t u ≤ 8796093022208
+undefined_most None u p q = omega arith
+undefined_most (Some t) None p q = omega arith
+undefined_most (Some t) (Some u) p q = omega arith
 
 module _ (a : List ℕ) (byte : (k : ℕ) → get_or a k 0 < 256) where
   pub low_at : (k : ℕ) → Low (time_at a k)
@@ -165,9 +167,9 @@ module _ (a : List ℕ) (byte : (k : ℕ) → get_or a k 0 < 256) where
 abbrev betweens : ℕ → ℕ → ℕ → Between
 betweens x y z = record { gap = x; overlap = y; undefined = z }
 
-none_after : (t u : Time) → u ≡ T.Undefined → BetweenIs t u (betweens 0 0 1)
-none_after T.Undefined u e = record { gap = refl; overlap = refl; undefined = refl }
-none_after (T.At d m) u e = rw e (record { gap = refl; overlap = refl; undefined = refl })
+none_after : (t u : Option Time) → u ≡ None → BetweenIs t u (betweens 0 0 1)
+none_after None u e = record { gap = refl; overlap = refl; undefined = refl }
+none_after (Some t) u e = rw e (record { gap = refl; overlap = refl; undefined = refl })
 
 pub no_stop : (stop start : ℕ) → stop ≡ 0xffff_ffff_ffff → BetweenIs (time_of stop) (time_of start) (betweens 0 0 1)
 no_stop stop start e = rw (bits_none stop e) (record { gap = refl; overlap = refl; undefined = refl })
@@ -183,12 +185,12 @@ pub both_some :
     → BetweenIs (time_of stop) (time_of start) (betweens (line_of start - line_of stop) (line_of stop - line_of start) 0)
 both_some stop start some-stop some-start = rw (bits_some stop some-stop, bits_some start some-start) (record { gap = refl; overlap = refl; undefined = refl })
 
-below_greater : (x y : ℕ) {z : ℕ} → z ≡ x + (y - x) → (z - x ≡ y - x) × (z - y ≡ x - y)
+below_greater : (x y : ℕ) {z : ℕ} → z ≡ max x y → (z - x ≡ y - x) × (z - y ≡ x - y)
 below_greater x y e = (omega arith, omega arith)
 
 -- with x and y on the line, and y for x where one is undefined; end is the greater
 module _ (stop start : ℕ) {x y none from end : ℕ} (x-is : x ≡ line_of stop) (y-is : y ≡ line_of start) (none_is : none ≡ undefined_between (time_of stop) (time_of start))
-    (from_is : (none ≡ 0 → from ≡ x) × (none ≡ 1 → from ≡ y)) (end_is : end ≡ from + (y - from)) where
+    (from_is : (none ≡ 0 → from ≡ x) × (none ≡ 1 → from ≡ y)) (end_is : end ≡ max from y) where
   not_both : BetweenIs (time_of stop) (time_of start) (betweens 0 0 1) → BetweenIs (time_of stop) (time_of start) (betweens (end - from) (end - y) none)
   not_both b =
       let e = from_is.1 (none_is ∙ sym b.undefined) in
@@ -210,9 +212,6 @@ module _ (stop start : ℕ) {x y none from end : ℕ} (x-is : x ≡ line_of stop
 
 -- how far a stop lies after a start, by where the two stand
 pub overlap_is :
-    (t u : Time) (d m e n p q r : ℕ) → t ≡ T.At d m → u ≡ T.At e n → p ≡ on_line d m → q ≡ on_line e n → r ≡ p - q
+    (t u : Option Time) (d m e n p q r : ℕ) → t ≡ T.At d m → u ≡ T.At e n → p ≡ on_line d m → q ≡ on_line e n → r ≡ p - q
     → r ≡ overlap_between t u
 overlap_is t u d m e n p q r x y v w z = rw (x, y, z, v, w) refl
-
-pub place_is : (d m w x l : ℕ) → w ≡ d → x ≡ extra_before w → l ≡ m → w * 86400000 + x + l ≡ on_line d m
-place_is d m w x l p q r = rw (r, q, p) refl

@@ -70,16 +70,6 @@ fn unless(none: u64, x: u64, y: u64) -> u64
     y
 }
 
-// The greater of the two.
-fn greater(x: u64, y: u64) -> u64
-    ensures { result ≡ x + (y - x) }
-{
-    if x < y {
-        return y;
-    }
-    x
-}
-
 // One stop and the next start, by their bits: 48 of a time, and of any number what lies above the millisecond's 32 is the day. Where one is
 // undefined the start is taken for both. (No early return, and no difference that stops at 0, which on x86-64 is a branch: of times in no order
 // it would be guessed wrong.)
@@ -89,7 +79,7 @@ pub fn time_between(stop: u64, start: u64) -> Between
     let none = undefined_of(stop, start);
     let to = on_line(start);
     let from = unless(none, on_line(stop), to);
-    let end = greater(from, to);
+    let end = from.max(to);
     Between {
         gap: end - from,
         overlap: end - to,
@@ -97,48 +87,28 @@ pub fn time_between(stop: u64, start: u64) -> Between
     }
 }
 
-fn wide(day: u16) -> u64
-    ensures { (result ≡ day) × (result < 65536) }
-{
-    day as u64
-}
-
-fn long(milli: u32) -> u64
-    ensures { (result ≡ milli) × (result < 4294967296) }
-{
-    milli as u64
-}
-
 // Where a time stands.
 fn place_of(day: u16, milli: u32) -> u64
     ensures { result ≡ on_line day milli }
 {
-    let d = wide(day);
-    d * 86_400_000 + extra_before(d) + long(milli)
-}
-
-// How far the first is above the second.
-fn above(x: u64, y: u64) -> u64
-    ensures { result ≡ x - y }
-{
-    if x < y {
-        return 0;
-    }
-    x - y
+    let d = day as u64;
+    d * 86_400_000 + extra_before(d) + milli as u64
 }
 
 // The milliseconds that a stop lies after a start; none where one is undefined.
-pub fn overlap(stop: Time, start: Time) -> u64
+pub fn overlap(stop: Option<Time>, start: Option<Time>) -> u64
     ensures { result ≡ overlap_between stop start }
 {
     match stop {
-        Time::Undefined => 0,
-        Time::At { day, milli } => match start {
-            Time::Undefined => 0,
-            Time::At {
-                day: other,
-                milli: late,
-            } => above(place_of(day, milli), place_of(other, late)),
+        None => 0,
+        Some(Time { day, milli }) => match start {
+            None => 0,
+            Some(
+                Time {
+                    day: other,
+                    milli: late,
+                },
+            ) => place_of(day, milli).saturating_sub(place_of(other, late)),
         },
     }
 }

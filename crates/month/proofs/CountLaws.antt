@@ -10,8 +10,9 @@ use borrow.Author.Tests.{eq-eqb, ne_eqb}
 use lib.Dec.{eqb}
 use lib.ListN.{length, get_or, set, replicate, length-set}
 use lib.Seq.{get_or-set_same, get_or-set_other}
-use Rattle.meter.specs.Integer.{be_at}
-use Rattle.meter.specs.Time.{time_of, time_at}
+use Rattle.meter.specs.Time.{time_at}
+use Rattle.std.specs.declared.option.Option.TheVariants.{Some, None}
+use Rattle.std.specs.declared.option.Option.{Option}
 use Rattle.meter.specs.declared.time.Time.{Time}
 use Rattle.text.proofs.Exact.{is_small}
 use Rattle.mphr.specs.Table.{total}
@@ -20,89 +21,15 @@ use Rattle.finish.specs.Ahead.{Record, Ahead, none, more}
 use Rattle.finish.proofs.AheadLaws.{all_ahead}
 use Rattle.demands.specs.Product.{class, size, of_class, Meets}
 use Rattle.demands.proofs.Accept.{complete_covered}
-use Rattle.demands.proofs.Accepted.{first_class, meets_complete, covers}
+use Rattle.demands.proofs.Accepted.{meets_complete, covers}
 use Rattle.moment.specs.Moment.{gap_between, overlap_between, undefined_between}
 use Rattle.month.specs.Report.{sum_of, records_in, bytes_in, mdrs, over_pairs, stop_to_start, gaps, overlaps, undefined_pairs, for_classes, totals, contribution}
-use Rattle.moment.specs.Pairing.{BetweenIs}
-use Rattle.month.specs.Counting.{with_left, PairSums, mdr_here, Paired, PairedOn}
-use Rattle.moment.specs.declared.Between.{Between}
+use Rattle.month.specs.Counting.{with_left, PairSums, Paired, PairedOn}
 use Rattle.month.specs.declared.count.Pairs.{Pairs}
 use Rattle.month.proofs.PlusLaws.{none_at}
 use Rattle.moment.proofs.MomentLaws.{Low, low_at, gap_most, overlap_most, undefined_most}
 
 -- ---- THE PAIRS
--- one sum, whichever it is: of the n that it has come to, with the MDR at byte i, and of what that adds
-module _ (f : ℕ → ℕ → ℕ) (n last i c : ℕ) {x : ℕ} (xs : List ℕ) (left : with_left f n last (mdr_here c i xs) ≡ x) where
-  no_pair : (c ≡ 8 → ⊥) → with_left f n last xs ≡ x
-  no_pair d = rw (ne_eqb c 8 d) at left
-
-  module _ (e : c ≡ 8) (later : i ≡ 0 → ⊥) where
-    first_pair : last ≡ 0 → with_left f n i xs ≡ x
-    first_pair d = let h : with_left f n last (mdr_here c i xs) ≡ with_left f n i xs = rw (e, d, ne_eqb i 0 later) refl in sym h ∙ left
-
-    module _ (some : last ≡ 0 → ⊥) {b : ℕ} (b-is : b ≡ f last i) where
-      next_pair : with_left f (n + b) i xs ≡ x
-      next_pair = let h : with_left f n last (mdr_here c i xs) ≡ with_left f (n + b) i xs = rw (e, b-is, ne_eqb last 0 some, ne_eqb i 0 later) (omega arith) in sym h ∙ left
-
-      pair_fits : x < 18446744073709551616 → n + b < 18446744073709551616
-      pair_fits h = omega (arith, next_pair)
-
--- the three of them, where there is a last MDR, which has b with this one
-pub record NextPair (a : List ℕ) (p : Pairs) (i c : ℕ) (b : Between) : Type 0 where
-  pub gap_fits : p.gap + b.gap < 18446744073709551616
-  pub overlap_fits : p.overlap + b.overlap < 18446744073709551616
-  pub undefined_fits : p.undefined + b.undefined < 18446744073709551616
-  pub on : PairedOn a p i c (record { last = i; gap = p.gap + b.gap; overlap = p.overlap + b.overlap; undefined = p.undefined + b.undefined })
-
-module _ {a : List ℕ} {p : Pairs} {i c : ℕ} (q : Paired a p i c) where
-  abbrev gap_at : ℕ → ℕ → ℕ
-  gap_at = stop_to_start gap_between a
-
-  abbrev overlap_at : ℕ → ℕ → ℕ
-  overlap_at = stop_to_start overlap_between a
-
-  abbrev undefined_at : ℕ → ℕ → ℕ
-  undefined_at = stop_to_start undefined_between a
-
-  pub paired_other : (c ≡ 8 → ⊥) → PairedOn a p i c p
-  paired_other d = record {
-    last = q.last;
-    sums = λ xs x y z s. record {
-      gap = no_pair gap_at p.gap p.last i c xs s.gap d;
-      overlap = no_pair overlap_at p.overlap p.last i c xs s.overlap d;
-      undefined = no_pair undefined_at p.undefined p.last i c xs s.undefined d;
-    };
-  }
-
-  module _ (e : c ≡ 8) where
-    pub paired_first : p.last ≡ 0 → PairedOn a p i c (record { last = i; gap = p.gap; overlap = p.overlap; undefined = p.undefined })
-    paired_first d = record {
-      last = q.here;
-      sums = λ xs x y z s. record {
-        gap = first_pair gap_at p.gap p.last i c xs s.gap e (q.later e) d;
-        overlap = first_pair overlap_at p.overlap p.last i c xs s.overlap e (q.later e) d;
-        undefined = first_pair undefined_at p.undefined p.last i c xs s.undefined e (q.later e) d;
-      };
-    }
-
-    pub paired_next : (p.last ≡ 0 → ⊥) → {v w : ℕ} {b : Between} → v ≡ be_at a (p.last + 14) 6 → w ≡ be_at a (i + 8) 6 → BetweenIs (time_of v) (time_of w) b → NextPair a p i c b
-    paired_next d {v} {w} {b} v-is w-is k =
-        let m : BetweenIs (time_at a (p.last + 14)) (time_at a (i + 8)) b = subst (λ (x : ℕ). BetweenIs (time_at a (p.last + 14)) (time_of x) b) w-is (subst (λ (x : ℕ). BetweenIs (time_of x) (time_of w) b) v-is k) in
-        let t = q.sums in
-        record {
-          gap_fits = pair_fits gap_at p.gap p.last i c q.xs t.gap e (q.later e) d m.gap q.gap_small;
-          overlap_fits = pair_fits overlap_at p.overlap p.last i c q.xs t.overlap e (q.later e) d m.overlap q.overlap_small;
-          undefined_fits = pair_fits undefined_at p.undefined p.last i c q.xs t.undefined e (q.later e) d m.undefined q.undefined_small;
-          on = record {
-            last = q.here;
-            sums = λ xs x y z s. record {
-              gap = next_pair gap_at p.gap p.last i c xs s.gap e (q.later e) d m.gap;
-              overlap = next_pair overlap_at p.overlap p.last i c xs s.overlap e (q.later e) d m.overlap;
-              undefined = next_pair undefined_at p.undefined p.last i c xs s.undefined e (q.later e) d m.undefined;
-            };
-          };
-        }
-
 pairs_most : (f : ℕ → ℕ → ℕ) → ((i j : ℕ) → f i j ≤ 8796093022208) → (xs : List ℕ) → over_pairs f xs ≤ length xs * 8796093022208
 pairs_most f h [] = omega arith
 pairs_most f h (i ∷ []) = omega arith
@@ -162,9 +89,6 @@ module _ {a : List ℕ} (t : Meets a) where
       let v = (complete_covered k).1 in
       subst (λ (l : List ℕ). Ahead a 0 (0 ∷ l)) (covers t v).1 (all_ahead k v)
 
-  pub main_class : class a 0 ≡ 1
-  main_class = first_class a t.header.header
-
   pub product_small : length a ≤ 2147483647
   product_small = omega (arith, t.come, t.header.most)
 
@@ -181,7 +105,7 @@ module _ {a : List ℕ} (t : Meets a) where
 
   -- a sum over the pairs, each of which is below 2 ^ 43
   module _ (byte : (k : ℕ) → get_or a k 0 < 256) where
-    few : (f : Time → Time → ℕ) → ((t u : Time) → Low t → Low u → f t u ≤ 8796093022208) → over_pairs (stop_to_start f a) (mdrs a (0 ∷ t.list)) < 18446744073709551616
+    few : (f : Option Time → Option Time → ℕ) → ((t u : Option Time) → Low t → Low u → f t u ≤ 8796093022208) → over_pairs (stop_to_start f a) (mdrs a (0 ∷ t.list)) < 18446744073709551616
     few f h =
         let low = low_at a byte in
         omega (arith, few_mdrs, pairs_most (stop_to_start f a) (λ i j. h (time_at a (i + 14)) (time_at a (j + 8)) (low (i + 14)) (low (j + 8))) (mdrs a (0 ∷ t.list)))
@@ -202,17 +126,17 @@ pub record Sofar (a whole records bytes : List ℕ) (p : Pairs) (i : ℕ) (l : L
   pub nine_bytes : length bytes ≡ 9
   pub counts : Left a (λ (j : ℕ). 1) records l (records_in a whole)
   pub sizes : Left a (size a) bytes l (bytes_in a whole)
-  pub last : p.last + 20 ≤ length a
+  pub last : (j : ℕ) → p.last ≡ Some j → j + 20 ≤ length a
   pub pairs : PairSums a p (mdrs a l) (gaps a whole) (overlaps a whole) (undefined_pairs a whole)
 
-pub first : {a : List ℕ} (t : Meets a) → Sofar a (0 ∷ t.list) (replicate 9 0) (replicate 9 0) (record { last = 0; gap = 0; overlap = 0; undefined = 0 }) 0 (0 ∷ t.list)
+pub first : {a : List ℕ} (t : Meets a) → Sofar a (0 ∷ t.list) (replicate 9 0) (replicate 9 0) (record { last = None; gap = 0; overlap = 0; undefined = 0 }) 0 (0 ∷ t.list)
 first {a} t = record {
   ahead = all_records t;
   nine = refl;
   nine_bytes = refl;
   counts = record { each = λ c. omega (arith, none_at 9 c) };
   sizes = record { each = λ c. omega (arith, none_at 9 c) };
-  last = omega (arith, t.come, t.header.least);
+  last = λ j e. absurd (let z : ◌≡◌ {A = ℕ} 0 1 = cc in omega arith);
   pairs = record { gap = omega arith; overlap = omega arith; undefined = omega arith };
 }
 
@@ -235,7 +159,6 @@ module _ {a records bytes : List ℕ} {p : Pairs} {i : ℕ} (t : Meets a) (h : H
   ask_pair byte c e = record {
     here = omega (arith, h.here.least, h.here.most);
     last = h.sofar.last;
-    later = λ q z. let y : class a i ≡ class a 0 = ap (class a) z in omega (arith, main_class t);
     xs = mdrs a h.rest;
     gap = gaps a (0 ∷ t.list);
     overlap = overlaps a (0 ∷ t.list);
@@ -270,17 +193,17 @@ pub counted : {a whole records bytes : List ℕ} {p : Pairs} {i : ℕ} (l : List
     → totals (λ (c : ℕ). get_or records c 0) (λ (c : ℕ). get_or bytes c 0) p.gap p.overlap p.undefined ≡ contribution a whole
 counted {a} {whole} {records} {bytes} {p} {i} l s h = go s.ahead s
   where
-    done : (f : ℕ → ℕ → ℕ) (n m : ℕ) (b : Bool) → n + over_pairs f (cond b [] (p.last ∷ [])) ≡ m → n ≡ m
-    done f n m true e = omega arith
-    done f n m false e = omega arith
+    done : (f : ℕ → ℕ → ℕ) (n m : ℕ) (o : Option ℕ) → with_left f n o [] ≡ m → n ≡ m
+    done f n m None e = omega (arith, e)
+    done f n m (Some i) e = omega (arith, e)
 
     go : {l : List ℕ} → Ahead a i l → Sofar a whole records bytes p i l → totals (λ (c : ℕ). get_or records c 0) (λ (c : ℕ). get_or bytes c 0) p.gap p.overlap p.undefined ≡ contribution a whole
     go (more r n) s = absurd (omega (arith, r.least, r.most))
     go (none k) s =
         let q = s.pairs in
-        let g = done (stop_to_start gap_between a) p.gap (gaps a whole) (eqb p.last 0) q.gap in
-        let o = done (stop_to_start overlap_between a) p.overlap (overlaps a whole) (eqb p.last 0) q.overlap in
-        let u = done (stop_to_start undefined_between a) p.undefined (undefined_pairs a whole) (eqb p.last 0) q.undefined in
+        let g = done (stop_to_start gap_between a) p.gap (gaps a whole) p.last q.gap in
+        let o = done (stop_to_start overlap_between a) p.overlap (overlaps a whole) p.last q.overlap in
+        let u = done (stop_to_start undefined_between a) p.undefined (undefined_pairs a whole) p.last q.undefined in
         let x : for_classes (λ (c : ℕ). get_or records c 0) ≡ for_classes (records_in a whole) = same_classes (λ (c : ℕ). get_or records c 0) (records_in a whole) (λ c. omega (arith, s.counts.each c)) in
         let y : for_classes (λ (c : ℕ). get_or bytes c 0) ≡ for_classes (bytes_in a whole) = same_classes (λ (c : ℕ). get_or bytes c 0) (bytes_in a whole) (λ c. omega (arith, s.sizes.each c)) in
         cc

@@ -7,10 +7,11 @@ use mathlib.Core.Path.{◌≡◌, refl, sym, ap, subst, ◌∙◌}
 use mathlib.Core.List.{List, ◌∷◌, ◌++◌, Permᴰ}
 use lib.ListN.{length, get_or, set, replicate, length-set}
 use lib.Seq.{get_or-set_other}
-use Rattle.month.specs.Report.{Contributes, accepted, unfit, plus, empty, Reports, none, more, Within, JoinIs, joined, past, MergeIs, merged, over, Lent, done, next, IsIn, AllIn}
-use Rattle.month.specs.declared.report.Added.{Added}
-use Rattle.month.specs.declared.report.Merged.{Merged}
-use Rattle.month.specs.declared.report.Merged.TheVariants as M
+use Rattle.month.specs.Report.{Contributes, accepted, unfit, plus, empty, Reports, none, more, Within, Added, JoinIs, joined, past, MergeIs, merged, over, Lent, done, next, IsIn, AllIn}
+use Rattle.std.specs.declared.option.Option.{Option}
+use Rattle.std.specs.declared.result.Result.TheVariants.{Ok}
+use Rattle.std.specs.declared.result.Result.{Result}
+use Rattle.calendar.specs.declared.Refusal.{Refusal}
 use Rattle.month.proofs.PlusLaws.{none_at, plus_at, plus_assoc, plus_swap, plus_length, plus_empty, empty_plus, within_left}
 use Rattle.month.proofs.ReportLaws.{unique_contribution}
 
@@ -20,7 +21,7 @@ unique_report none none = refl
 unique_report (more {v = v} {x = x} s c r) (more {v = w} {x = y} t d q) =
     ap (λ (l : List ℕ). plus l x) (unique_contribution c d).1 ∙ ap (plus w) (unique_report r q)
 
-share_length : {a v : List ℕ} {s : Added} → Contributes a s v → length v ≡ 38
+share_length : {a v : List ℕ} {s : Option Refusal} → Contributes a s v → length v ≡ 38
 share_length (accepted t) = refl
 share_length (unfit r g) = length-set (set (replicate 38 0) 0 1) (20 + r.number) 1
 
@@ -35,7 +36,7 @@ has_report done = (empty, none)
 has_report (next p l) = let r = has_report l in (plus p.share r.0, more p.said p.contributes r.1)
 
 -- a product that was no 36 is in, and all is within the limits
-in_joins : {x v y : List ℕ} {k r : Added} → IsIn r → JoinIs x v k r y → (y ≡ plus x v) × Within y
+in_joins : {x v y : List ℕ} {k : Option Refusal} {r : Added} → IsIn r → JoinIs x v k r y → (y ≡ plus x v) × Within y
 in_joins i (joined w) = (refl, w)
 in_joins i (past d) = absurd i
 
@@ -61,24 +62,20 @@ pub lent_report : {y v : List ℕ} {ps : List (List ℕ)} {rs : List Added} → 
 lent_report l i r = lent_adds refl l i r ∙ empty_plus _ (report_length r)
 
 -- 36 IS WHERE IT LEAVES ITS LIMITS: within them no product meets it
-said_in : {a v : List ℕ} {s : Added} → Contributes a s v → IsIn s
-said_in (accepted t) = tt
-said_in (unfit r g) = tt
-
-within_joins : {a x v y : List ℕ} {k r : Added} → Within (plus x v) → Contributes a k v → JoinIs x v k r y → IsIn r × (y ≡ plus x v)
-within_joins w c (joined u) = (said_in c, refl)
-within_joins w c (past d) = absurd (d w)
+within_joins : {x v y : List ℕ} {k : Option Refusal} {r : Added} → Within (plus x v) → JoinIs x v k r y → IsIn r × (y ≡ plus x v)
+within_joins w (joined u) = (tt, refl)
+within_joins w (past d) = absurd (d w)
 
 pub never_36 : {x y v : List ℕ} {ps : List (List ℕ)} {rs : List Added} → Reports ps v → Within (plus x v) → Lent x ps rs y → AllIn rs
 never_36 none w done = tt
 never_36 {x} (more {v = v} {x = u} s c r) w (next {y = y'} p l) =
     let e = (unique_contribution c p.contributes).1 in
     let all : Within (plus (plus x p.share) u) = subst Within (ap (λ (z : List ℕ). plus x (plus z u)) e ∙ sym (plus_assoc x p.share u)) w in
-    let j = within_joins (within_left (plus x p.share) u all) p.contributes p.joins in
+    let j = within_joins (within_left (plus x p.share) u all) p.joins in
     (j.0, never_36 {x = y'} r (subst (λ (z : List ℕ). Within (plus z u)) (sym j.1) all) l)
 
 -- "a 4,097th product (refused ones counted)": each adds one to the products, so that a longer list leaves the limits
-adds_one : {a v : List ℕ} {s : Added} → Contributes a s v → get_or v 0 0 ≡ 1
+adds_one : {a v : List ℕ} {s : Option Refusal} → Contributes a s v → get_or v 0 0 ≡ 1
 adds_one (accepted t) = refl
 adds_one (unfit r g) =
     let one : List ℕ = set (replicate 38 0) 0 1 in
@@ -120,8 +117,8 @@ report_append {ps = a ∷ ps} {qs = qs} {w = w} (more {v = v} {x = x} s c q) r =
 
 -- so the merge of the reports of two lists is the report of the list, and is refused where a product of the list is
 merge_whole :
-    {ls : List (List ℕ)} {ts : List Added} {o v x y z w : List ℕ} {m : Merged} → length o ≡ 38 → Within o → Reports ls v → plus o v ≡ plus x y → Lent o ls ts z → MergeIs x y m w
-    → (AllIn ts → (m ≡ M.Done) × (w ≡ z)) × (m ≡ M.Done → AllIn ts × (w ≡ z))
+    {ls : List (List ℕ)} {ts : List Added} {o v x y z w : List ℕ} {m : Result Unit Refusal} → length o ≡ 38 → Within o → Reports ls v → plus o v ≡ plus x y → Lent o ls ts z → MergeIs x y m w
+    → (AllIn ts → (m ≡ Ok tt) × (w ≡ z)) × (m ≡ Ok tt → AllIn ts × (w ≡ z))
 merge_whole e wo r q n (merged u) =
     let i = never_36 r (subst Within (sym q) u) n in
     let d = sym q ∙ sym (lent_adds e n i r) in
@@ -131,9 +128,9 @@ merge_whole e wo r q n (over d) =
 
 -- the first list from whatever report o, the second from a new one, and the whole from o
 pub merge_lists :
-    {ps qs : List (List ℕ)} {rs ss ts : List Added} {o x y z w : List ℕ} {m : Merged} → length o ≡ 38 → Within o
+    {ps qs : List (List ℕ)} {rs ss ts : List Added} {o x y z w : List ℕ} {m : Result Unit Refusal} → length o ≡ 38 → Within o
     → Lent o ps rs x → AllIn rs → Lent empty qs ss y → AllIn ss → Lent o (ps ++ qs) ts z → MergeIs x y m w
-    → (AllIn ts → (m ≡ M.Done) × (w ≡ z)) × (m ≡ M.Done → AllIn ts × (w ≡ z))
+    → (AllIn ts → (m ≡ Ok tt) × (w ≡ z)) × (m ≡ Ok tt → AllIn ts × (w ≡ z))
 merge_lists {o = o} {x = x} e wo l i k j n q =
     let r = has_report l in
     let s = has_report k in

@@ -5,9 +5,13 @@ use native.Mathlib.Nat.{add_comm, add_assoc}
 use native.Mathlib.Decide.{ℕ_discrete}
 use native.Mathlib.Omega.{arith}
 use mathlib.Core.Path.{◌≡◌, refl, sym, ap, ◌∙◌}
-use mathlib.Core.Bool.{true, false, true≢false}
+use mathlib.Core.Bool.{Bool, true, false, true≢false}
+use mathlib.Core.Logic.{◌≢◌}
 use mathlib.Core.List.{List, [], ◌∷◌}
 use lib.ListN.{length, get_or, set, replicate, length-set}
+use Rattle.std.proofs.lemmas.Slice.Zip.{get_or-zip, length-zip}
+use Rattle.std.specs.Bool.{MatchBool}
+use Rattle.std.specs.List.{zip, AllWithin, HoldsAt}
 use lib.Seq.{get_or-set_same, get_or-set_other, ext_get_or}
 use Rattle.month.specs.Report.{plus, empty, Within}
 use Rattle.month.specs.Counting.{FitsIs}
@@ -76,40 +80,45 @@ module _ (x y : List ℕ) where
   pub many_both : 4096 - get_or y 0 0 < get_or x 0 0 → FitsIs x y false
   many_both h = not_fits (λ w. omega (arith, w.products, plus_at x y 0))
 
-  pub past_64 : (k r : ℕ) → k < 38 → r + get_or y k 0 ≡ 18446744073709551615 → r < get_or x k 0 → FitsIs x y false
-  past_64 k r l e h = not_fits (λ w. omega (arith, w.each k l, plus_at x y k))
+  -- the sum of two numbers is in 64 bits, or is not
+  abbrev pub Fits : ℕ × ℕ → Type 0
+  Fits p = p.0 + p.1 < 18446744073709551616
 
-  -- the sums before place i are in 64 bits
-  abbrev pub Fit : ℕ → Type 0
-  Fit i = (k : ℕ) → k < i → get_or x k 0 + get_or y k 0 < 18446744073709551616
+  abbrev pub Passes : ℕ × ℕ → Type 0
+  Passes p = 18446744073709551616 ≤ p.0 + p.1
 
-  pub fit_next : {i : ℕ} → Fit i → get_or x i 0 + get_or y i 0 < 18446744073709551616 → Fit (i + 1)
-  fit_next {i} f h k l = go (ℕ_discrete k i)
-    where
-      go : Dec (k ≡ i) → get_or x k 0 + get_or y k 0 < 18446744073709551616
-      go (yes e) = rw e h
-      go (no n) = f k (omega (arith, n))
+  module _ (long : length x ≡ 38) (long' : length y ≡ 38) where
+    pair : (k : ℕ) → k < 38 → get_or (zip x y) k (0, 0) ≡ (get_or x k 0, get_or y k 0)
+    pair k l = get_or-zip x y k (0, 0) (omega arith) (omega arith)
 
-  pub fit_all : {i : ℕ} → 38 ≤ i → Fit i → get_or x 0 0 + get_or y 0 0 ≤ 4096 → FitsIs x y true
-  fit_all {i} l f h = record {
-    right = λ _. record { products = omega (arith, plus_at x y 0); each = λ k m. omega (arith, plus_at x y k, f k (omega arith)) };
-    wrong = λ e. absurd (true≢false e);
-  }
+    pub all_fit : (r : Bool) → get_or x 0 0 + get_or y 0 0 ≤ 4096 → MatchBool r (AllWithin Fits (zip x y) 0 (length (zip x y))) ((k : ℕ) × (k < length (zip x y)) × HoldsAt Passes (zip x y) k) → FitsIs x y r
+    all_fit true h f = record {
+      right = λ _. record { products = omega (arith, plus_at x y 0); each = λ k m. omega (arith, plus_at x y k, rw (pair k m) at (f k (0, 0) (omega arith) (simp length-zip (omega arith)))) };
+      wrong = λ e. absurd (true≢false e);
+    }
+    all_fit false h (k, l, p) =
+        let m : k < 38 = omega (arith, simp length-zip at l) in
+        not_fits (λ w. omega (arith, w.each k m, plus_at x y k, rw (pair k m) at (p (0, 0))))
 
-  -- ---- THE SUM, place by place: those before place i are in
+  -- ---- THE SUM, place by place: those before place i are in, the others are as they were
   pub record Summed (z : List ℕ) (i : ℕ) : Type 0 where
     pub long : length z ≡ length x
     pub done : (k : ℕ) → k < i → get_or z k 0 ≡ get_or x k 0 + get_or y k 0
+    pub kept : (k : ℕ) → i ≤ k → get_or z k 0 ≡ get_or x k 0
 
   pub sum_first : Summed x 0
-  sum_first = record { long = refl; done = λ k l. absurd (omega arith) }
+  sum_first = record { long = refl; done = λ k l. absurd (omega arith); kept = λ k l. refl }
 
-  pub sum_next : {z : List ℕ} {i : ℕ} → Summed z i → i < length x → Summed (set z i (get_or x i 0 + get_or y i 0)) (i + 1)
-  sum_next {z} {i} s h = record { long = length-set z i (get_or x i 0 + get_or y i 0) ∙ s.long; done = λ k l. go k l (ℕ_discrete k i) }
+  pub sum_next : {z : List ℕ} {i : ℕ} → Summed z i → i < length x → Summed (set z i (get_or z i 0 + get_or y i 0)) (i + 1)
+  sum_next {z} {i} s h = record {
+    long = length-set z i (get_or z i 0 + get_or y i 0) ∙ s.long;
+    done = λ k l. go k l (ℕ_discrete k i);
+    kept = λ k l. let n : k ≢ i = omega arith in get_or-set_other z i k (get_or z i 0 + get_or y i 0) 0 n ∙ s.kept k (omega arith);
+  }
     where
-      go : (k : ℕ) → k < i + 1 → Dec (k ≡ i) → get_or (set z i (get_or x i 0 + get_or y i 0)) k 0 ≡ get_or x k 0 + get_or y k 0
-      go k l (yes e) = rw e (get_or-set_same z i (get_or x i 0 + get_or y i 0) 0 (omega (arith, s.long)))
-      go k l (no n) = get_or-set_other z i k (get_or x i 0 + get_or y i 0) 0 n ∙ s.done k (omega (arith, n))
+      go : (k : ℕ) → k < i + 1 → Dec (k ≡ i) → get_or (set z i (get_or z i 0 + get_or y i 0)) k 0 ≡ get_or x k 0 + get_or y k 0
+      go k l (yes e) = rw e (get_or-set_same z i (get_or z i 0 + get_or y i 0) 0 (omega (arith, s.long)) ∙ ap (λ (n : ℕ). n + get_or y i 0) (s.kept i (omega arith)))
+      go k l (no n) = get_or-set_other z i k (get_or z i 0 + get_or y i 0) 0 n ∙ s.done k (omega (arith, n))
 
   pub sum_last : {z : List ℕ} {i : ℕ} → Summed z i → length x ≡ length y → length x ≤ i → z ≡ plus x y
   sum_last {z} {i} s e h = ext_get_or 0 z (plus x y) (s.long ∙ sym (plus_length x y e)) (λ k l. s.done k (omega (arith, s.long)) ∙ sym (plus_at x y k))

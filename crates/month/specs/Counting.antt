@@ -4,15 +4,17 @@ use Rattle.std.specs.Prelude.{ℕ, ◌+◌, ◌≤◌, ◌<◌, ◌≡◌, Bool,
 use Rattle.moment.specs.Moment.{gap_between, overlap_between, undefined_between}
 use Rattle.month.specs.Report.{over_pairs, stop_to_start, plus, Within, Contributes}
 use Rattle.month.specs.declared.count.Pairs.{Pairs}
-use Rattle.month.specs.declared.report.Added.TheVariants as A
+use Rattle.std.specs.declared.option.Option.TheVariants.{Some, None}
+use Rattle.std.specs.declared.option.Option.{Option}
 
--- ---- the pairs: with the MDRs at the bytes xs, after the last, which stands at byte i
-abbrev pub held : ℕ → List ℕ → List ℕ
-held i xs = cond (eqb i 0) xs (i ∷ xs)
+-- ---- the pairs: with the MDRs at the bytes xs, after the last, where there was one
+abbrev pub held : Option ℕ → List ℕ → List ℕ
+held None xs = xs
+held (Some i) xs = i ∷ xs
 
 -- the sum of f over the pairs, of which s is come to
-abbrev pub with_left : (ℕ → ℕ → ℕ) → ℕ → ℕ → List ℕ → ℕ
-with_left f s i xs = s + over_pairs f (held i xs)
+abbrev pub with_left : (ℕ → ℕ → ℕ) → ℕ → Option ℕ → List ℕ → ℕ
+with_left f s o xs = s + over_pairs f (held o xs)
 
 pub record PairSums (a : List ℕ) (p : Pairs) (xs : List ℕ) (x y z : ℕ) : Type 0 where
   pub gap : with_left (stop_to_start gap_between a) p.gap p.last xs ≡ x
@@ -26,8 +28,7 @@ mdr_here c i xs = cond (eqb c 8) (i ∷ xs) xs
 -- what a pair more asks, at the record of class c at byte i: its header is there, and so is that of the last; the sums have room
 pub record Paired (a : List ℕ) (p : Pairs) (i c : ℕ) : Type 0 where
   pub here : i + 20 ≤ length a
-  pub last : p.last + 20 ≤ length a
-  pub later : c ≡ 8 → i ≡ 0 → ⊥
+  pub last : (j : ℕ) → p.last ≡ Some j → j + 20 ≤ length a
   pub xs : List ℕ
   pub gap : ℕ
   pub overlap : ℕ
@@ -39,12 +40,12 @@ pub record Paired (a : List ℕ) (p : Pairs) (i c : ℕ) : Type 0 where
 
 -- and what it comes to
 pub record PairedOn (a : List ℕ) (p : Pairs) (i c : ℕ) (r : Pairs) : Type 0 where
-  pub last : r.last + 20 ≤ length a
+  pub last : (j : ℕ) → r.last ≡ Some j → j + 20 ≤ length a
   pub sums : (xs : List ℕ) (x y z : ℕ) → PairSums a p (mdr_here c i xs) x y z → PairSums a r xs x y z
 
 -- ---- all records of an accepted product
 abbrev pub CountsAll : List ℕ → List ℕ → Type 0
-CountsAll a v = Contributes a A.Accepted v
+CountsAll a v = Contributes a None v
 
 -- ---- the sum of two reports is within the limits, or is not
 pub record FitsIs (x y : List ℕ) (b : Bool) : Type 0 where

@@ -7,16 +7,15 @@ use Rattle.std.specs.Prelude.{ℕ, ◌+◌, ◌≤◌, ◌<◌, ◌≡◌, cond,
 use Rattle.calendar.specs.Said.{refusing}
 use Rattle.calendar.specs.declared.Refusal.{Refusal}
 use Rattle.meter.specs.Time.{time_at}
+use Rattle.std.specs.declared.result.Result.TheVariants.{Ok, Err}
+use Rattle.std.specs.declared.option.Option.TheVariants.{Some, None}
+use Rattle.std.specs.declared.option.Option.{Option}
+use Rattle.std.specs.declared.result.Result.{Result}
 use Rattle.meter.specs.declared.time.Time.{Time}
 use Rattle.finish.specs.Rows.{start_of}
 use Rattle.finish.specs.Finish.{VerdictIs}
-use Rattle.finish.specs.declared.Finished.TheVariants as F
 use Rattle.demands.specs.Product.{class, size, Meets}
 use Rattle.moment.specs.Moment.{gap_between, overlap_between, undefined_between}
-use Rattle.month.specs.declared.report.Added.{Added}
-use Rattle.month.specs.declared.report.Added.TheVariants as A
-use Rattle.month.specs.declared.report.Merged.{Merged}
-use Rattle.month.specs.declared.report.Merged.TheVariants as M
 
 -- ---- ONE PRODUCT, whose bytes are a; l are the starts of its records, as its rows have them
 -- the sum of w over the records of class c
@@ -43,7 +42,7 @@ over_pairs f (i ∷ []) = 0
 over_pairs f (i ∷ j ∷ l) = f i j + over_pairs f (j ∷ l)
 
 -- "between one stop and the next start": f of the stop of the record at byte i and the start of that at byte j
-abbrev pub stop_to_start : {A : Type 0} → (Time → Time → A) → List ℕ → ℕ → ℕ → A
+abbrev pub stop_to_start : {A : Type 0} → (Option Time → Option Time → A) → List ℕ → ℕ → ℕ → A
 stop_to_start f a i j = f (time_at a (i + 14)) (time_at a (j + 8))
 
 abbrev pub gaps : List ℕ → List ℕ → ℕ
@@ -70,10 +69,10 @@ contribution a l = totals (records_in a l) (bytes_in a l) (gaps a l) (overlaps a
 abbrev pub tallied : ℕ → List ℕ
 tallied n = set (set (replicate 38 0) 0 1) (20 + n) 1
 
--- WHAT A PRODUCT ADDS, whichever it is, and what is answered of it: its own refusal, 17 too where it is short
-pub data Contributes (a : List ℕ) : Added → List ℕ → Type 0 where
-  accepted : (t : Meets a) → Contributes a A.Accepted (contribution a (0 ∷ t.list))
-  unfit : (r : Refusal) → VerdictIs a (F.Refused r) → Contributes a (A.Tallied r) (tallied r.number)
+-- WHAT A PRODUCT ADDS, whichever it is, and what is said of it: its own refusal, 17 too where it is short, or none
+pub data Contributes (a : List ℕ) : Option Refusal → List ℕ → Type 0 where
+  accepted : (t : Meets a) → Contributes a None (contribution a (0 ∷ t.list))
+  unfit : (r : Refusal) → VerdictIs a (Err r) → Contributes a (Some r) (tallied r.number)
 
 -- ---- REPORTS
 -- place by place, without bound
@@ -89,29 +88,33 @@ empty = replicate 38 0
 -- THE REPORT OF A LIST OF PRODUCTS, without bound: what each adds
 pub data Reports : List (List ℕ) → List ℕ → Type 0 where
   none : Reports [] empty
-  more : {a v x : List ℕ} {ps : List (List ℕ)} (said : Added) → Contributes a said v → Reports ps x → Reports (a ∷ ps) (plus v x)
+  more : {a v x : List ℕ} {ps : List (List ℕ)} (said : Option Refusal) → Contributes a said v → Reports ps x → Reports (a ∷ ps) (plus v x)
 
 -- "up to 4,096 products", each total in 64 bits: 36 is where this does not hold
 pub record Within (x : List ℕ) : Type 0 where
   pub products : get_or x 0 0 ≤ 4096
   pub each : (k : ℕ) → k < 38 → get_or x k 0 < 18446744073709551616
 
+-- what is answered of a product that is added: what is said of it where it is in, or 36
+abbrev pub Added : Type 0
+Added = Result (Option Refusal) Refusal
+
 -- v joins the report x, which is y then, and `said` is answered; or 36, "place 0, the report unchanged"
-pub data JoinIs (x v : List ℕ) (said : Added) : Added → List ℕ → Type 0 where
-  joined : Within (plus x v) → JoinIs x v said said (plus x v)
-  past : (Within (plus x v) → ⊥) → JoinIs x v said (A.Refused (refusing 36 0)) x
+pub data JoinIs (x v : List ℕ) (said : Option Refusal) : Added → List ℕ → Type 0 where
+  joined : Within (plus x v) → JoinIs x v said (Ok said) (plus x v)
+  past : (Within (plus x v) → ⊥) → JoinIs x v said (Err (refusing 36 0)) x
 
 -- ADD: of the product a and the report x, r is answered and the report is y then
 pub record AddIs (a x : List ℕ) (r : Added) (y : List ℕ) : Type 0 where
-  pub said : Added
+  pub said : Option Refusal
   pub share : List ℕ
   pub contributes : Contributes a said share
   pub joins : JoinIs x share said r y
 
 -- MERGE: of two reports
-pub data MergeIs (x y : List ℕ) : Merged → List ℕ → Type 0 where
-  merged : Within (plus x y) → MergeIs x y M.Done (plus x y)
-  over : (Within (plus x y) → ⊥) → MergeIs x y (M.Refused (refusing 36 0)) x
+pub data MergeIs (x y : List ℕ) : Result Unit Refusal → List ℕ → Type 0 where
+  merged : Within (plus x y) → MergeIs x y (Ok tt) (plus x y)
+  over : (Within (plus x y) → ⊥) → MergeIs x y (Err (refusing 36 0)) x
 
 -- ---- A LIST OF PRODUCTS, "lent one after the other" to the report x: rs is answered of the products ps, and the report is y then
 pub data Lent : List ℕ → List (List ℕ) → List Added → List ℕ → Type 0 where
@@ -120,9 +123,8 @@ pub data Lent : List ℕ → List (List ℕ) → List Added → List ℕ → Typ
 
 -- "never meets 36"
 abbrev pub IsIn : Added → Type 0
-IsIn A.Accepted = Unit
-IsIn (A.Tallied r) = Unit
-IsIn (A.Refused r) = ⊥
+IsIn (Ok said) = Unit
+IsIn (Err r) = ⊥
 
 abbrev pub AllIn : List Added → Type 0
 AllIn [] = Unit

@@ -3,25 +3,12 @@ ghost use Rattle.std.specs.Prelude.{◌≡◌, ◌+◌, ◌≤◌, ◌<◌, leng
 ghost use Rattle.meter.specs.Integer.{be_at};
 ghost use Rattle.demands.specs.Product.{size};
 
-fn wide(b: u8) -> u64
-    ensures { (result ≡ b) × (result < 256) }
-{
-    b as u64
-}
-
-// A byte as a place in an array.
-pub(crate) fn place(b: u8) -> usize
-    ensures { result ≡ b }
-{
-    b as usize
-}
-
 // The number in the 2 bytes from `at` on.
 fn pair(s: &[u8], at: usize) -> u64
     requires { at + 2 ≤ length s.now }
     ensures { (result ≡ be_at s.now at 2) × (result < 65536) }
 {
-    wide(s[at]) * 256 + wide(s[at + 1])
+    u64::from(s[at]) * 256 + u64::from(s[at + 1])
 }
 
 // The number in the 4 bytes from `at` on.
@@ -29,7 +16,7 @@ fn word(s: &[u8], at: usize) -> u64
     requires { at + 4 ≤ length s.now }
     ensures { (result ≡ be_at s.now at 4) × (result < 4294967296) }
 {
-    (pair(s, at) * 256 + wide(s[at + 2])) * 256 + wide(s[at + 3])
+    (pair(s, at) * 256 + u64::from(s[at + 2])) * 256 + u64::from(s[at + 3])
 }
 
 // The size in the header that starts at `at`.

@@ -4,22 +4,16 @@ ghost use Rattle.demands.specs.Product.{Meets};
 ghost use Rattle.month.specs.Report.{totals};
 ghost use Rattle.month.specs.Counting.{Paired, PairedOn, CountsAll};
 
-use crate::bits::{bits_at, place, size_in};
+use crate::bits::{bits_at, size_in};
 use moment::time_between;
 
-// What the pairs came to, and where the last MDR stands: 0 where there was none.
+// What the pairs came to, and where the last MDR stands.
 #[derive(Clone, Copy)]
 pub(crate) struct Pairs {
-    pub last: usize,
+    pub last: Option<usize>,
     pub gap: u64,
     pub overlap: u64,
     pub undefined: u64,
-}
-
-fn long(x: usize) -> u64
-    ensures { result ≡ x }
-{
-    x as u64
 }
 
 // Place `class` gets `more`.
@@ -27,7 +21,7 @@ fn raise(sums: &mut [u64; 9], class: usize, more: u64)
     requires { (class < 9) × (get_or sums.old class 0 + more < 18446744073709551616) }
     ensures { sums.new ≡ set sums.old class (get_or sums.old class 0 + more) }
 {
-    sums[class] = sums[class] + more;
+    sums[class] += more;
 }
 
 // With the record at `at`, a pair more where it is an MDR and not the first.
@@ -38,18 +32,15 @@ fn paired(s: &[u8], pairs: Pairs, at: usize, class: usize) -> Pairs
     if class != 8 {
         return pairs;
     }
-    let last = pairs.last;
-    if last == 0 {
+    let Some(last) = pairs.last else {
         return Pairs {
-            last: at,
-            gap: pairs.gap,
-            overlap: pairs.overlap,
-            undefined: pairs.undefined,
+            last: Some(at),
+            ..pairs
         };
-    }
+    };
     let more = time_between(bits_at(s, last + 14), bits_at(s, at + 8));
     Pairs {
-        last: at,
+        last: Some(at),
         gap: pairs.gap + more.gap,
         overlap: pairs.overlap + more.overlap,
         undefined: pairs.undefined + more.undefined,
@@ -94,7 +85,7 @@ pub(crate) fn count_records(s: &[u8]) -> [u64; 38]
     let mut records = [0u64; 9];
     let mut bytes = [0u64; 9];
     let mut pairs = Pairs {
-        last: 0,
+        last: None,
         gap: 0,
         overlap: 0,
         undefined: 0,
@@ -102,9 +93,9 @@ pub(crate) fn count_records(s: &[u8]) -> [u64; 38]
     let mut at: usize = 0;
     while at < s.len() {
         let size = size_in(s, at);
-        let class = place(s[at]);
+        let class = usize::from(s[at]);
         raise(&mut records, class, 1);
-        raise(&mut bytes, class, long(size));
+        raise(&mut bytes, class, size as u64);
         pairs = paired(s, pairs, at, class);
         at += size;
     }

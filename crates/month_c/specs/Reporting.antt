@@ -1,21 +1,21 @@
 -- What C is told of a report: the answers of the functions below, as numbers. Assumes nothing.
 use Rattle.std.specs.Prelude.{ℕ, List}
 use Rattle.told.specs.Told.{Told, four, refused}
-use Rattle.month.specs.Report.{AddIs, MergeIs}
-use Rattle.month.specs.declared.report.Added.{Added}
-use Rattle.month.specs.declared.report.Added.TheVariants as A
-use Rattle.month.specs.declared.report.Merged.{Merged}
-use Rattle.month.specs.declared.report.Merged.TheVariants as M
+use Rattle.month.specs.Report.{Added, AddIs, MergeIs}
+use Rattle.std.specs.declared.option.Option.TheVariants.{Some, None}
+use Rattle.std.specs.declared.result.Result.TheVariants.{Ok, Err}
+use Rattle.std.specs.declared.result.Result.{Result}
+use Rattle.calendar.specs.declared.Refusal.{Refusal}
 
 -- 0, 0, and the product's own refusal with its place, or zeros; a refusal is 36
 abbrev pub added_said : Added → List ℕ
-added_said A.Accepted = four 0 0 0 0
-added_said (A.Tallied r) = four 0 0 r.number r.place
-added_said (A.Refused r) = refused 4 r
+added_said (Ok None) = four 0 0 0 0
+added_said (Ok (Some r)) = four 0 0 r.number r.place
+added_said (Err r) = refused 4 r
 
-abbrev pub merged_said : Merged → List ℕ
-merged_said M.Done = four 0 0 0 0
-merged_said (M.Refused r) = refused 4 r
+abbrev pub merged_said : Result Unit Refusal → List ℕ
+merged_said (Ok _) = four 0 0 0 0
+merged_said (Err r) = refused 4 r
 
 -- the product a is added to the report x, which is y then
 abbrev pub AddTold : List ℕ → List ℕ → List ℕ → List ℕ → Type 0
@@ -23,4 +23,4 @@ AddTold a x y numbers = Told (λ (r : Added). AddIs a x r y) added_said numbers
 
 -- the report z is merged into x, which is y then
 abbrev pub MergeTold : List ℕ → List ℕ → List ℕ → List ℕ → Type 0
-MergeTold x z y numbers = Told (λ (r : Merged). MergeIs x z r y) merged_said numbers
+MergeTold x z y numbers = Told (λ (r : Result Unit Refusal). MergeIs x z r y) merged_said numbers

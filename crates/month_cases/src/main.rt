@@ -5,68 +5,60 @@
 use calendar::Refusal;
 use cases::input::{byte, read, read_part, word};
 use cases::print::{number, refusal, say};
-use month::report::{Added, Merged};
-use std::io;
 use std::io::{Read, Write};
+use std::{io, mem};
 
 fn print_own<W: Write>(out: &mut W, r: Refusal) -> io::Result<()> {
     say(out, b" added")?;
-    number(out, r.number as u64)?;
+    number(out, u64::from(r.number))?;
     number(out, r.place as u64)
 }
 
-fn print_added<W: Write>(out: &mut W, answer: Added) -> io::Result<()> {
+fn print_added<W: Write>(out: &mut W, answer: Result<Option<Refusal>, Refusal>) -> io::Result<()> {
     match answer {
-        Added::Accepted => say(out, b" added 0 0")?,
-        Added::Tallied(r) => print_own(out, r)?,
-        Added::Refused(r) => refusal(out, r)?,
+        Ok(None) => say(out, b" added 0 0")?,
+        Ok(Some(r)) => print_own(out, r)?,
+        Err(r) => refusal(out, r)?,
     }
     say(out, b"\n")
 }
 
-fn print_merged<W: Write>(out: &mut W, answer: Merged) -> io::Result<()> {
+fn print_merged<W: Write>(out: &mut W, answer: Result<(), Refusal>) -> io::Result<()> {
     match answer {
-        Merged::Done => say(out, b" merged")?,
-        Merged::Refused(r) => refusal(out, r)?,
+        Ok(()) => say(out, b" merged")?,
+        Err(r) => refusal(out, r)?,
     }
     say(out, b"\n")
 }
 
 fn print_report<W: Write>(out: &mut W, report: &[u64; 38]) -> io::Result<()> {
-    let mut i: usize = 0;
-    while i < 38 {
-        number(out, report[i])?;
-        i += 1;
+    for n in report {
+        number(out, *n)?;
     }
     say(out, b"\n")
 }
 
 // A report of 38 numbers of 8 bytes each.
 fn set_report(report: &mut [u64; 38], data: &[u8]) {
-    let mut i: usize = 0;
-    while i < 38 {
-        report[i] = word(data, i * 8, 8);
-        i += 1;
+    for (i, n) in report.iter_mut().enumerate() {
+        *n = word(data, i * 8, 8);
     }
 }
 
 // The product is lent so many times; the last answer comes back.
-fn add_times(report: &mut [u64; 38], product: &[u8], times: u64) -> Added {
-    let mut answer = Added::Accepted;
-    let mut i: u64 = 0;
-    while i < times {
+fn add_times(
+    report: &mut [u64; 38],
+    product: &[u8],
+    times: u64,
+) -> Result<Option<Refusal>, Refusal> {
+    let mut answer = Ok(None);
+    for _ in 0..times {
         answer = month::report::add(report, product);
-        i += 1;
     }
     answer
 }
 
-fn exchange(report: &mut [u64; 38], other: &mut [u64; 38]) {
-    let kept = *report;
-    *report = *other;
-    *other = kept;
-}
-
+// An order is matched where its byte is read: an enum of the orders would name each of them twice, here and where it is made of the byte.
 fn run_order<W: Write>(
     out: &mut W,
     order: u8,
@@ -78,11 +70,11 @@ fn run_order<W: Write>(
     match order {
         0 => set_report(report, data),
         1 => {
-            add_times(report, data, times);
+            let _ = add_times(report, data, times);
         }
         2 => print_added(out, add_times(report, data, times))?,
         3 => print_report(out, report)?,
-        4 => exchange(report, other),
+        4 => mem::swap(report, other),
         _ => print_merged(out, month::report::merge(report, other))?,
     }
     Ok(())

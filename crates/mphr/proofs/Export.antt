@@ -13,7 +13,7 @@ use Rattle.calendar.specs.Said.{answer}
 use lib.IntN.{pos}
 use Rattle.tables.proofs.Passing.{holds, passes}
 use Rattle.text.specs.Field.{is_value, number_read_at}
-use Rattle.text.specs.declared.Number.TheVariants as N
+use Rattle.std.specs.declared.option.Option.TheVariants.{Some}
 use Rattle.text.proofs.Exact.{count_read}
 use Rattle.mphr.proofs.LineLaws.{size_number, declared_is, total_number, total_is}
 use Rattle.mphr.proofs.TurnLaws.{shown_most}
@@ -73,10 +73,10 @@ fine_early f (bad_totals v d) = absurd (f (bad_totals v d) (omega arith))
 fine_early f (bad_times e) = refl
 
 -- THE SIZE AND THE TOTALS are what text's number reader answers of their fields
-pub size_read : {a : List ℕ} → Fine a → 1497 ≤ length a → number_read_at false 11 a 1485 ≡ answer (N.Whole (pos (declared a)))
+pub size_read : {a : List ℕ} → Fine a → 1497 ≤ length a → number_read_at false 11 a 1485 ≡ answer (Some (pos (declared a)))
 unfolding is_value
 size_read {a} f h = rw (declared_is a) (count_read a 1485 11 (size_number a (fine_valued f 28 (omega arith))) (omega arith) (omega arith))
 
-pub total_read : {a : List ℕ} → Fine a → 2994 ≤ length a → (j : ℕ) → j < 9 → number_read_at false 6 a (2675 + 39 * j) ≡ answer (N.Whole (pos (total a j)))
+pub total_read : {a : List ℕ} → Fine a → 2994 ≤ length a → (j : ℕ) → j < 9 → number_read_at false 6 a (2675 + 39 * j) ≡ answer (Some (pos (total a j)))
 unfolding is_value
 total_read {a} f h j l = rw (total_is a j l) (count_read a (2675 + 39 * j) 6 (total_number a j l (fine_valued f (55 + j) (omega arith))) (omega arith) (omega arith))

@@ -62,13 +62,6 @@ kind_back Signed = refl
 kind_back Time = refl
 kind_back LongTime = refl
 
-pub code_at : (k : ℕ) → get_or codes k 0 ≡ code_of (kind_of k)
-unfolding codes kind_of
-code_at k = get_or-map code_of kinds k Text
-
-pub kind_from_lem : (k : ℕ) → kind_from (get_or codes k 0) ≡ kind_of k
-kind_from_lem k = ap kind_from (code_at k) ∙ kind_back (kind_of k)
-
 -- each line starts after the one before
 pub start_next : (k : ℕ) → line_start (suc k) ≡ line_start k + width_of k + 33
 unfolding line_start

@@ -13,9 +13,12 @@ use lib.Seq.{get_or-drop, get_or-take, get_or-append-add, length-take-le, ext_ge
 use Rattle.calendar.specs.declared.Refusal.{Refusal}
 use Rattle.calendar.specs.Said.{answer}
 use Rattle.meter.specs.General.{digits_of, is_general, general_at, general_read_at, fits_general, put_general}
-use Rattle.meter.specs.declared.general.General.{General}
-use Rattle.meter.specs.declared.integer.Written.{Written}
-use Rattle.meter.specs.declared.integer.Written.TheVariants as W
+use Rattle.std.specs.declared.option.Option.TheVariants.{Some, None}
+use Rattle.std.specs.declared.result.Result.TheVariants.{Ok, Err}
+use Rattle.std.specs.declared.option.Option.{Option}
+use Rattle.std.specs.declared.result.Result.{Result}
+use Rattle.std.specs.Prelude.{ℤ}
+use Rattle.meter.specs.declared.general.Moment.{Moment}
 use Rattle.meter.proofs.ReadsBack.{reads_answer}
 use Rattle.meter.proofs.GeneralWrite.{width_low, general_back, general_kept, general_length}
 use Rattle.meter.proofs.WriterLaws.{Done, done, beyond, keeps}
@@ -23,8 +26,6 @@ use Rattle.text.specs.Field.{is_value, number_read_at}
 use Rattle.text.specs.Writing.{fits_number, put_number, put_text}
 use Rattle.text.specs.declared.Kind.{Kind}
 use Rattle.text.specs.declared.Kind.TheVariants.{Text, Unsigned, Count, Signed, Time, LongTime}
-use Rattle.text.specs.declared.Number.{Number}
-use Rattle.text.specs.declared.Number.TheVariants as N
 use Rattle.text.proofs.Alike.{Alike, value_alike, read_alike, general_read_alike}
 use Rattle.text.proofs.Back.{number_back, number_valued, count_valued, number_kept, number_length, text_valued, text_kept}
 use Rattle.text.proofs.Laws.{text_wide, fits_some}
@@ -105,22 +106,22 @@ module _ (k : ℕ) (put : List ℕ → List ℕ) (a : List ℕ) (p : Put k put a
 text_kind : (d : Kind) (w : ℕ) (r t : List ℕ) → text_fits d w t ≡ true → is_value d (put_text r t) 0 w ≡ true
 text_kind d w r t e = let k = is_text d w t e in rw k.0 (text_valued w r t k.1)
 
-number_kind : (d : Kind) (w : ℕ) (r : List ℕ) (x : Number) → number_fits d w x ≡ true → w ≤ length r → is_value d (put_number w r x) 0 w ≡ true
+number_kind : (d : Kind) (w : ℕ) (r : List ℕ) (x : Option ℤ) → number_fits d w x ≡ true → w ≤ length r → is_value d (put_number w r x) 0 w ≡ true
 unfolding number_fits
 number_kind Text w r x e h = absurd (true≢false (sym e))
 number_kind Unsigned w r x e h = number_valued false w r x e h
-number_kind Count w r N.Undefined e h = absurd (true≢false (sym e))
-number_kind Count w r (N.Whole z) e h = count_valued w r z e h
+number_kind Count w r None e h = absurd (true≢false (sym e))
+number_kind Count w r (Some z) e h = count_valued w r z e h
 number_kind Signed w r x e h = number_valued true w r x e h
 number_kind Time w r x e h = absurd (true≢false (sym e))
 number_kind LongTime w r x e h = absurd (true≢false (sym e))
 
-is_general_lem : (long : Bool) (r : List ℕ) (t : General) → fits_general long t ≡ true → digits_of long + 1 ≤ length r → is_general (digits_of long) (put_general (digits_of long) r t) 0 ≡ true
+is_general_lem : (long : Bool) (r : List ℕ) (t : Option Moment) → fits_general long t ≡ true → digits_of long + 1 ≤ length r → is_general (digits_of long) (put_general (digits_of long) r t) 0 ≡ true
 is_general_lem long r t e h =
     let b = put_general (digits_of long) r t in
     (reads_answer b 0 (digits_of long + 1) (is_general (digits_of long) b 0) (general_at (digits_of long) b 0) t (general_back long r t e h)).1
 
-time_kind : (d : Kind) (w : ℕ) (r : List ℕ) (t : General) → time_fits d t ≡ true → digits_of (is_long d) + 1 ≡ w → w ≤ length r → is_value d (put_general (digits_of (is_long d)) r t) 0 w ≡ true
+time_kind : (d : Kind) (w : ℕ) (r : List ℕ) (t : Option Moment) → time_fits d t ≡ true → digits_of (is_long d) + 1 ≡ w → w ≤ length r → is_value d (put_general (digits_of (is_long d)) r t) 0 w ≡ true
 unfolding time_fits is_long is_value
 time_kind Text w r t e q h = absurd (true≢false (sym e))
 time_kind Unsigned w r t e q h = absurd (true≢false (sym e))
@@ -157,7 +158,7 @@ module _ (k : ℕ) (t a : List ℕ) (on : text_on k t ≡ true) (room : width_of
       ∙ get_or-append t (drop (length t) v) 0 j (omega (arith, n, text_wide_is)))
 
 -- ---- A NUMBER
-module _ (k : ℕ) (x : Number) (a : List ℕ) (on : number_on k x ≡ true) (room : width_of k + 33 ≤ length a) where
+module _ (k : ℕ) (x : Option ℤ) (a : List ℕ) (on : number_on k x ≡ true) (room : width_of k + 33 ≤ length a) where
   number_fit : fits_number true (width_of k) x ≡ true
   unfolding number_on
   number_fit = number_fits_lem (kind_of k) (width_of k) x (on_both k (number_fits (kind_of k) (width_of k) x) on).1
@@ -179,7 +180,7 @@ module _ (k : ℕ) (x : Number) (a : List ℕ) (on : number_on k x ≡ true) (ro
       ∙ number_back true (width_of k) v x number_fit r
 
 -- ---- A TIME
-module _ (k : ℕ) (t : General) (a : List ℕ) (on : time_on k t ≡ true) (room : width_of k + 33 ≤ length a) where
+module _ (k : ℕ) (t : Option Moment) (a : List ℕ) (on : time_on k t ≡ true) (room : width_of k + 33 ≤ length a) where
   time_fit : (k < 72) × (time_fits (kind_of k) t ≡ true)
   unfolding time_on
   time_fit = on_both k (time_fits (kind_of k) t) on
@@ -203,29 +204,29 @@ module _ (k : ℕ) (t : General) (a : List ℕ) (on : time_on k t ≡ true) (roo
       ∙ general_back (is_long (kind_of k)) v t (time_fits_lem (kind_of k) t time_fit.1) (omega (arith, time_width, r))
 
 -- ---- THE WRITERS, by their promises: what lies beyond is kept, whatever is answered
-line_keeps : (room exit : List ℕ) (r : Written) (j k : ℕ) (right : Bool) (put : List ℕ → List ℕ) → WritesLine room k right put r exit → width_of k + 33 ≤ j → (right ≡ true → width_of k + 33 ≤ length room → Put k put room) → get_or exit j 0 ≡ get_or room j 0
+line_keeps : (room exit : List ℕ) (r : Result ℕ Refusal) (j k : ℕ) (right : Bool) (put : List ℕ → List ℕ) → WritesLine room k right put r exit → width_of k + 33 ≤ j → (right ≡ true → width_of k + 33 ≤ length room → Put k put room) → get_or exit j 0 ≡ get_or room j 0
 line_keeps room exit r j k right put w h p = beyond room (width_of k + 33) right (put_line k put room) exit j w.1 (λ f l. line_kept k put room (p f l) j h)
 
-module _ (room exit : List ℕ) (r : Written) (j k : ℕ) where
+module _ (room exit : List ℕ) (r : Result ℕ Refusal) (j k : ℕ) where
   pub write_text_line_keeps : (t : List ℕ) → WritesTextLine room k t r exit → width_of k + 33 ≤ j → get_or exit j 0 ≡ get_or room j 0
   write_text_line_keeps t w h = line_keeps room exit r j k (text_on k t) (λ (a : List ℕ). put_text a t) w h (text_put k t room)
 
-  pub write_number_line_keeps : (x : Number) → WritesNumberLine room k x r exit → width_of k + 33 ≤ j → get_or exit j 0 ≡ get_or room j 0
+  pub write_number_line_keeps : (x : Option ℤ) → WritesNumberLine room k x r exit → width_of k + 33 ≤ j → get_or exit j 0 ≡ get_or room j 0
   write_number_line_keeps x w h = line_keeps room exit r j k (number_on k x) (λ (a : List ℕ). put_number (width_of k) a x) w h (number_put k x room)
 
-  pub write_time_line_keeps : (t : General) → WritesTimeLine room k t r exit → width_of k + 33 ≤ j → get_or exit j 0 ≡ get_or room j 0
+  pub write_time_line_keeps : (t : Option Moment) → WritesTimeLine room k t r exit → width_of k + 33 ≤ j → get_or exit j 0 ≡ get_or room j 0
   write_time_line_keeps t w h = line_keeps room exit r j k (time_on k t) (λ (a : List ℕ). put_general (digits_of (is_long (kind_of k))) a t) w h (time_put k t room)
 
   pub write_name_keeps : WritesName room k r exit → length (name_of k) ≤ j → get_or exit j 0 ≡ get_or room j 0
   write_name_keeps w h = beyond room (length (name_of k)) (leb k 71) (put_text room (name_of k)) exit j w.1 (λ _ _. text_kept room (name_of k) j h)
 
 -- and where bytes are answered, the line is there
-pub line_written : (room exit : List ℕ) (m k : ℕ) (right : Bool) (put : List ℕ → List ℕ) → WritesLine room k right put (W.Bytes m) exit → Done room (width_of k + 33) right (put_line k put room) exit m
+pub line_written : (room exit : List ℕ) (m k : ℕ) (right : Bool) (put : List ℕ → List ℕ) → WritesLine room k right put (Ok m) exit → Done room (width_of k + 33) right (put_line k put room) exit m
 line_written room exit m k right put w = done room (width_of k + 33) right (put_line k put room) exit 22 m w.0 w.1
 
 -- ---- A REFUSAL KEEPS THE ROOM: of a line, and of a name
-pub line_refusal_keeps : (room : List ℕ) (k : ℕ) (right : Bool) (put : List ℕ → List ℕ) (exit : List ℕ) (r : Refusal) → WritesLine room k right put (W.Refused r) exit → exit ≡ room
+pub line_refusal_keeps : (room : List ℕ) (k : ℕ) (right : Bool) (put : List ℕ → List ℕ) (exit : List ℕ) (r : Refusal) → WritesLine room k right put (Err r) exit → exit ≡ room
 line_refusal_keeps room k right put exit r w = keeps 22 (width_of k + 33) room (put_line k put room) exit right r w.0 w.1
 
-pub name_refusal_keeps : (room : List ℕ) (k : ℕ) (exit : List ℕ) (r : Refusal) → WritesName room k (W.Refused r) exit → exit ≡ room
+pub name_refusal_keeps : (room : List ℕ) (k : ℕ) (exit : List ℕ) (r : Refusal) → WritesName room k (Err r) exit → exit ≡ room
 name_refusal_keeps room k exit r w = keeps 22 (length (name_of k)) room (put_text room (name_of k)) exit (leb k 71) r w.0 w.1

@@ -19,8 +19,8 @@ use Rattle.tables.proofs.Laws as L
 use Rattle.text.proofs.Same.{number_same, value_same}
 use Rattle.mphr.specs.Layout.{names, width_of, kind_of, line_start}
 use Rattle.mphr.specs.Table.{headed, timed, named, framed, valued, declared, total, sum, Sums, bad_frame, bad_value, Fault, bad_header, bad_line, bad_size, bad_totals, bad_times, row, shown, table, Fine, FirstIs}
-use Rattle.mphr.specs.declared.faults.HeaderFault.{HeaderFault}
-use Rattle.mphr.specs.declared.faults.HeaderFault.TheVariants as F
+use Rattle.std.specs.declared.result.Result.TheVariants.{Ok, Err}
+use Rattle.std.specs.declared.result.Result.{Result}
 use Rattle.mphr.proofs.LayoutLaws.{start_next, start_mono, start_64, start_29}
 use Rattle.mphr.proofs.LineLaws.{declared_is, total_is}
 use Rattle.mphr.proofs.TurnLaws.{shown_most}
@@ -90,11 +90,11 @@ lawful = record { alike = local; kept = λ r. refl; one = λ r s e. e }
 pub same_refusal : (x y : Refusal) → x.number ≡ y.number → x.place ≡ y.place → x ≡ y
 same_refusal x y n p = ap (λ (k : ℕ). refusing k x.place) n ∙ ap (refusing y.number) p
 
-pub unique_header_fault : (a : List ℕ) (r s : HeaderFault) → FirstIs a r → FirstIs a s → r ≡ s
-unique_header_fault a F.Clean F.Clean h k = refl
-unique_header_fault a F.Clean (F.Refused x) h k = absurd (not_clean k h)
-unique_header_fault a (F.Refused x) F.Clean h k = absurd (not_clean h k)
-unique_header_fault a (F.Refused x) (F.Refused y) h k = let u = L.unique_given table lawful h k in ap F.Refused (same_refusal x y u.0 u.1)
+pub unique_header_fault : (a : List ℕ) (r s : Result Unit Refusal) → FirstIs a r → FirstIs a s → r ≡ s
+unique_header_fault a (Ok _) (Ok _) h k = refl
+unique_header_fault a (Ok _) (Err x) h k = absurd (not_clean k h)
+unique_header_fault a (Err x) (Ok _) h k = absurd (not_clean h k)
+unique_header_fault a (Err x) (Err y) h k = let u = L.unique_given table lawful h k in ap Err (same_refusal x y u.0 u.1)
 
 -- EXPORTED: a header that is fine stays so
 pub fine_on : {a b : List ℕ} {k : ℕ} → Same a b k → 3307 ≤ k → Fine a → Fine b

@@ -15,16 +15,18 @@ use lib.Seq.{get_or-set_same, get_or-set_other, get_or-append-add, get_or-drop, 
 use Rattle.calendar.specs.Said.{answer, refusal, refused}
 use Rattle.calendar.specs.declared.Refusal.{Refusal}
 use Rattle.calendar.proofs.Range.{below, at}
-use Rattle.meter.specs.Lent.{wrote, said_written}
-use Rattle.meter.specs.declared.integer.Written.{Written}
-use Rattle.meter.specs.declared.integer.Written.TheVariants as W
+use Rattle.meter.specs.Lent.{wrote}
+use Rattle.std.specs.declared.option.Option.TheVariants.{Some, None}
+use Rattle.std.specs.declared.result.Result.TheVariants.{Ok, Err}
+use Rattle.std.specs.declared.option.Option.{Option}
+use Rattle.std.specs.declared.result.Result.{Result}
+use Rattle.std.specs.Prelude.{ℤ}
+use Rattle.meter.specs.declared.general.Moment.{Moment}
+use Rattle.calendar.specs.Said.{said}
 use Rattle.meter.proofs.GeneralRuns.{and_true}
 use Rattle.meter.proofs.WriterLaws.{Done, done}
 use Rattle.meter.specs.General.{digits_of, fits_general}
-use Rattle.meter.specs.declared.general.General.{General}
 use Rattle.text.specs.Writing.{fits_text, fits_number}
-use Rattle.text.specs.declared.Number.{Number}
-use Rattle.text.specs.declared.Number.TheVariants as N
 use Rattle.text.specs.declared.Kind.TheVariants.{Text, Unsigned, Count, Signed, Time, LongTime}
 use Rattle.text.specs.declared.Kind.{Kind}
 use Rattle.mphr.specs.Layout.{fields, widths, kinds, code_of, kind_from, names, name_of, width_of, kind_of}
@@ -42,7 +44,7 @@ text_by Signed w t = refl
 text_by Time w t = refl
 text_by LongTime w t = refl
 
-number_by : (d : Kind) (w : ℕ) (x : Number) → number_fits d w x ≡ cond (eqb (code_of d) 1) (fits_number false w x) (cond (eqb (code_of d) 2) (count_fits w x) (cond (eqb (code_of d) 3) (fits_number true w x) false))
+number_by : (d : Kind) (w : ℕ) (x : Option ℤ) → number_fits d w x ≡ cond (eqb (code_of d) 1) (fits_number false w x) (cond (eqb (code_of d) 2) (count_fits w x) (cond (eqb (code_of d) 3) (fits_number true w x) false))
 unfolding number_fits
 number_by Text w x = refl
 number_by Unsigned w x = refl
@@ -51,7 +53,7 @@ number_by Signed w x = refl
 number_by Time w x = refl
 number_by LongTime w x = refl
 
-time_by : (d : Kind) (t : General) → time_fits d t ≡ leb 4 (code_of d) && fits_general (is_long d) t
+time_by : (d : Kind) (t : Option Moment) → time_fits d t ≡ leb 4 (code_of d) && fits_general (is_long d) t
 unfolding time_fits is_long
 time_by Text t = refl
 time_by Unsigned t = refl
@@ -59,56 +61,6 @@ time_by Count t = refl
 time_by Signed t = refl
 time_by Time t = refl
 time_by LongTime t = refl
-
-pub long_by : (d : Kind) → eqb (code_of d) 5 ≡ is_long d
-unfolding is_long
-long_by Text = refl
-long_by Unsigned = refl
-long_by Count = refl
-long_by Signed = refl
-long_by Time = refl
-long_by LongTime = refl
-
--- of a field that there is not, and of field k, whose kind has the number n and whose value is w wide
-pub on_none : (k : ℕ) (b : Bool) → 71 < k → false ≡ leb k 71 && b
-on_none k b h = sym (ap (λ (x : Bool). x && b) (lt-leb k 71 h))
-
-module _ (k n w : ℕ) (h : k ≤ 71) (e : n ≡ code_of (kind_of k)) (f : w ≡ width_of k) where
-  pub text_yes : (t : List ℕ) → n ≡ 0 → fits_text w t ≡ text_on k t
-  unfolding text_on
-  text_yes t z = rw (le-leb k 71 h, text_by (kind_of k) (width_of k) t, ← e, eq-eqb n 0 z, f)
-
-  pub number_unsigned : (x : Number) → n ≡ 1 → fits_number false w x ≡ number_on k x
-  unfolding number_on
-  number_unsigned x z = rw (le-leb k 71 h, number_by (kind_of k) (width_of k) x, ← e, eq-eqb n 1 z, f)
-
-  pub number_count : (x : Number) → n ≡ 2 → count_fits w x ≡ number_on k x
-  unfolding number_on
-  number_count x z = let d : n ≡ 1 → ⊥ = λ o. omega arith in rw (le-leb k 71 h, number_by (kind_of k) (width_of k) x, ← e, ne_eqb n 1 d, eq-eqb n 2 z, f)
-
-  pub number_signed : (x : Number) → n ≡ 3 → fits_number true w x ≡ number_on k x
-  unfolding number_on
-  number_signed x z =
-      let d : n ≡ 1 → ⊥ = λ o. omega arith in
-      let b : n ≡ 2 → ⊥ = λ o. omega arith in
-      rw (le-leb k 71 h, number_by (kind_of k) (width_of k) x, ← e, ne_eqb n 1 d, ne_eqb n 2 b, eq-eqb n 3 z, f)
-
-module _ (k n : ℕ) (h : k ≤ 71) (e : n ≡ code_of (kind_of k)) where
-  pub text_no : (t : List ℕ) → (n ≡ 0 → ⊥) → false ≡ text_on k t
-  unfolding text_on
-  text_no t z = rw (le-leb k 71 h, text_by (kind_of k) (width_of k) t, ← e, ne_eqb n 0 z)
-
-  pub number_no : (x : Number) → (n ≡ 1 → ⊥) → (n ≡ 2 → ⊥) → (n ≡ 3 → ⊥) → false ≡ number_on k x
-  unfolding number_on
-  number_no x a b c = rw (le-leb k 71 h, number_by (kind_of k) (width_of k) x, ← e, ne_eqb n 1 a, ne_eqb n 2 b, ne_eqb n 3 c)
-
-  pub time_no : (t : General) → n < 4 → false ≡ time_on k t
-  unfolding time_on
-  time_no t l = rw (le-leb k 71 h, time_by (kind_of k) t, ← e, lt-leb 4 n l)
-
-  pub time_yes : (t : General) (long : Bool) → 4 ≤ n → long ≡ is_long (kind_of k) → fits_general long t ≡ time_on k t
-  unfolding time_on
-  time_yes t long l g = rw (le-leb k 71 h, time_by (kind_of k) t, ← e, le-leb 4 n l, g)
 
 -- ---- the name
 pub name_step : (a : List ℕ) (k i : ℕ) → 0 < i → put_name a k i ≡ put_name (set a (i - 1) (get_or names (30 * k + (i - 1)) 0)) k (i - 1)
@@ -226,26 +178,26 @@ pub is_text : (d : Kind) (w : ℕ) (t : List ℕ) → text_fits d w t ≡ true �
 is_text d w t e = let u = and_true (eqb (code_of d) 0) (fits_text w t) (sym (text_by d w t) ∙ e) in (of_code d Text (eqb-true (code_of d) 0 u.0), u.1)
 
 -- an unsigned number is also a signed one
-more : (w : ℕ) (x : Number) → fits_number false w x ≡ true → fits_number true w x ≡ true
-more w N.Undefined e = e
-more w (N.Whole (pos n)) e = e
-more w (N.Whole (negsuc n)) e = absurd (none (ltb 0 w && leb w 17) e)
+more : (w : ℕ) (x : Option ℤ) → fits_number false w x ≡ true → fits_number true w x ≡ true
+more w None e = e
+more w (Some (pos n)) e = e
+more w (Some (negsuc n)) e = absurd (none (ltb 0 w && leb w 17) e)
   where
     none : (b : Bool) → b && false ≡ true → ⊥
     none true f = true≢false (sym f)
     none false f = true≢false (sym f)
 
-pub number_fits_lem : (d : Kind) (w : ℕ) (x : Number) → number_fits d w x ≡ true → fits_number true w x ≡ true
+pub number_fits_lem : (d : Kind) (w : ℕ) (x : Option ℤ) → number_fits d w x ≡ true → fits_number true w x ≡ true
 unfolding number_fits
 number_fits_lem Text w x e = absurd (true≢false (sym e))
 number_fits_lem Unsigned w x e = more w x e
-number_fits_lem Count w N.Undefined e = absurd (true≢false (sym e))
-number_fits_lem Count w (N.Whole z) e = more w (N.Whole z) e
+number_fits_lem Count w None e = absurd (true≢false (sym e))
+number_fits_lem Count w (Some z) e = more w (Some z) e
 number_fits_lem Signed w x e = e
 number_fits_lem Time w x e = absurd (true≢false (sym e))
 number_fits_lem LongTime w x e = absurd (true≢false (sym e))
 
-pub time_fits_lem : (d : Kind) (t : General) → time_fits d t ≡ true → fits_general (is_long d) t ≡ true
+pub time_fits_lem : (d : Kind) (t : Option Moment) → time_fits d t ≡ true → fits_general (is_long d) t ≡ true
 time_fits_lem d t e = (and_true (leb 4 (code_of d)) (fits_general (is_long d) t) (sym (time_by d t) ∙ e)).1
 
 -- a time's field is as wide as its text: one test over the 72
@@ -256,7 +208,7 @@ all_wide : T (below is_wide 72)
 unfolding is_long kind_of kinds width_of widths fields
 all_wide = tt
 
-pub time_wide : (k : ℕ) (t : General) → k < 72 → time_fits (kind_of k) t ≡ true → digits_of (is_long (kind_of k)) + 1 ≡ width_of k
+pub time_wide : (k : ℕ) (t : Option Moment) → k < 72 → time_fits (kind_of k) t ≡ true → digits_of (is_long (kind_of k)) + 1 ≡ width_of k
 time_wide k t h e =
     let u = (and_true (leb 4 (code_of (kind_of k))) (fits_general (is_long (kind_of k)) t) (sym (time_by (kind_of k) t) ∙ e)).0 in
     eqb→eq _ _ (rw u at (at is_wide 72 all_wide k h))
@@ -271,28 +223,28 @@ put_all xs ys h =
     ap (λ (z : List ℕ). take 32 xs ++ (ys ++ z)) e ∙ ap (λ (z : List ℕ). take 32 xs ++ z) (append-nil ys)
 
 -- a line that was begun for a value that is right or not, which `put` puts: refused, or ended by the value's writer, of n bytes
-pub record Begun (room xs : List ℕ) (k : ℕ) (right : Bool) (put : List ℕ → List ℕ) (r : Written) : Type 0 where
+pub record Begun (room xs : List ℕ) (k : ℕ) (right : Bool) (put : List ℕ → List ℕ) (r : Result ℕ Refusal) : Type 0 where
   pub begins : BeginsLine room k right r xs
 
-pub begun_as : {room xs : List ℕ} {k : ℕ} {right f : Bool} {put : List ℕ → List ℕ} {r : Written} → f ≡ right → BeginsLine room k f r xs → Begun room xs k right put r
+pub begun_as : {room xs : List ℕ} {k : ℕ} {right f : Bool} {put : List ℕ → List ℕ} {r : Result ℕ Refusal} → f ≡ right → BeginsLine room k f r xs → Begun room xs k right put r
 begun_as e b = record { begins = rw e at b }
 
-module _ {room xs : List ℕ} {k : ℕ} {right : Bool} {put : List ℕ → List ℕ} {r : Written} (b : Begun room xs k right put r) where
-  pub begun : (m : ℕ) → r ≡ W.Bytes m → Done room (width_of k + 33) right (put_frame k (width_of k) room) xs m
-  begun m e = done room (width_of k + 33) right (put_frame k (width_of k) room) xs 22 m (sym (ap said_written e) ∙ b.begins.0) b.begins.1
+module _ {room xs : List ℕ} {k : ℕ} {right : Bool} {put : List ℕ → List ℕ} {r : Result ℕ Refusal} (b : Begun room xs k right put r) where
+  pub begun : (m : ℕ) → r ≡ Ok m → Done room (width_of k + 33) right (put_frame k (width_of k) room) xs m
+  begun m e = done room (width_of k + 33) right (put_frame k (width_of k) room) xs 22 m (sym (ap said e) ∙ b.begins.0) b.begins.1
 
-  pub begun_room : (m : ℕ) → r ≡ W.Bytes m → width_of k + 33 ≤ length xs
+  pub begun_room : (m : ℕ) → r ≡ Ok m → width_of k + 33 ≤ length xs
   begun_room m e = let d = begun m e in omega (arith, d.room_is, ap length d.left ∙ frame_length k (width_of k) room)
 
-  pub line_refused : (x : Refusal) → r ≡ W.Refused x → WritesLine room k right put r xs
-  line_refused x e = (b.begins.0, go right (leb (width_of k + 33) (length room)) (sym (ap said_written e) ∙ b.begins.0) b.begins.1)
+  pub line_refused : (x : Refusal) → r ≡ Err x → WritesLine room k right put r xs
+  line_refused x e = (b.begins.0, go right (leb (width_of k + 33) (length room)) (sym (ap said e) ∙ b.begins.0) b.begins.1)
     where
       go : (u v : Bool) → refused x ≡ cond u (cond v (answer (width_of k + 33)) (refusal 18 (width_of k + 33))) (refusal 22 0) → xs ≡ cond (u && v) (put_frame k (width_of k) room) room → xs ≡ cond (u && v) (put_line k put room) room
       go true true q z = let o : ◌≡◌ {A = ℕ} 0 1 = cc in absurd (omega arith)
       go true false q z = z
       go false v q z = z
 
-  pub line_ended : (m n : ℕ) (ys : List ℕ) (g : Bool) → r ≡ W.Bytes m → n ≤ width_of k → g ≡ true → ys ≡ wrote (mid_of 32 (length xs - 32) xs) n g (put (mid_of 32 (length xs - 32) xs)) → WritesLine room k right put r (put_mid 32 (length xs - 32) xs ys)
+  pub line_ended : (m n : ℕ) (ys : List ℕ) (g : Bool) → r ≡ Ok m → n ≤ width_of k → g ≡ true → ys ≡ wrote (mid_of 32 (length xs - 32) xs) n g (put (mid_of 32 (length xs - 32) xs)) → WritesLine room k right put r (put_mid 32 (length xs - 32) xs ys)
   line_ended m n ys g e l t q =
       let d = begun m e in
       let long = begun_room m e in

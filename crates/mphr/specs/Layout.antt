@@ -7,8 +7,9 @@ use Prim.Native.String.{String}
 use Rattle.calendar.specs.Said.{Said, answer, refusal, refused}
 use Rattle.text.specs.declared.Kind.{Kind}
 use Rattle.mphr.specs.declared.layout.Place.{Place}
-use Rattle.mphr.specs.declared.layout.FieldPlace.{FieldPlace}
-use Rattle.mphr.specs.declared.layout.FieldPlace.TheVariants as P
+use Rattle.std.specs.declared.result.Result.TheVariants.{Ok, Err}
+use Rattle.std.specs.declared.result.Result.{Result}
+use Rattle.calendar.specs.declared.Refusal.{Refusal}
 use Rattle.text.specs.declared.Kind.TheVariants.{Text, Unsigned, Count, Signed, Time, LongTime}
 
 -- a line's name, the width of its value, and the value's kind
@@ -170,8 +171,3 @@ starts = starts_from 20 widths
 -- THE FIELD by its number (01: 22, "field number not 0..71"): where its line starts, and the width and the kind of its value
 abbrev pub field_of : ℕ → Said Place
 field_of k = cond (leb k 71) (answer (record { start = line_start k; width = width_of k; kind = kind_of k })) (refusal 22 0)
-
--- what an answer says
-abbrev pub said_place : FieldPlace → Said Place
-said_place (P.Place x) = answer x
-said_place (P.Refused r) = refused r

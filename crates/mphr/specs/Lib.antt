@@ -1,3 +1,4 @@
+pub mod LineEnd
 pub mod Layout
 pub mod Lookup
 pub mod Rows

@@ -3,15 +3,18 @@
 -- number in an unsigned field and an invalid time don't fit a line (22)"; "Writers check 22 or 21, then 18"). Assumes nothing.
 use Rattle.std.specs.Prelude.{ℕ, zero, suc, ◌+◌, ◌*◌, ◌≡◌, Bool, true, false, cond, ◌&&◌, List, ◌++◌, leb, length, get_or, set, take, drop}
 use Rattle.calendar.specs.Said.{Said, answer, refusal}
-use Rattle.meter.specs.Lent.{wrote, said_written}
-use Rattle.meter.specs.declared.integer.Written.{Written}
+use Rattle.meter.specs.Lent.{wrote}
+use Rattle.std.specs.declared.option.Option.TheVariants.{Some, None}
+use Rattle.std.specs.declared.option.Option.{Option}
+use Rattle.std.specs.declared.result.Result.{Result}
+use Rattle.calendar.specs.declared.Refusal.{Refusal}
+use Rattle.std.specs.Prelude.{ℤ}
+use Rattle.meter.specs.declared.general.Moment.{Moment}
+use Rattle.calendar.specs.Said.{said}
 use Rattle.meter.specs.General.{fits_general, put_general, digits_of}
-use Rattle.meter.specs.declared.general.General.{General}
 use Rattle.text.specs.Writing.{fits_number, put_number, fits_text, put_text}
 use Rattle.text.specs.declared.Kind.{Kind}
 use Rattle.text.specs.declared.Kind.TheVariants.{Text, Unsigned, Count, Signed, Time, LongTime}
-use Rattle.text.specs.declared.Number.{Number}
-use Rattle.text.specs.declared.Number.TheVariants as N
 use Rattle.mphr.specs.Layout.{names, name_of, width_of, kind_of}
 
 -- ---- what fits a line of the kind
@@ -24,11 +27,11 @@ text_fits Time w t = false
 text_fits LongTime w t = false
 
 -- the size and the totals are never undefined
-abbrev pub count_fits : ℕ → Number → Bool
-count_fits w N.Undefined = false
-count_fits w (N.Whole z) = fits_number false w (N.Whole z)
+abbrev pub count_fits : ℕ → Option ℤ → Bool
+count_fits w None = false
+count_fits w (Some z) = fits_number false w (Some z)
 
-unfoldable pub number_fits : Kind → ℕ → Number → Bool
+unfoldable pub number_fits : Kind → ℕ → Option ℤ → Bool
 number_fits Text w x = false
 number_fits Unsigned w x = fits_number false w x
 number_fits Count w x = count_fits w x
@@ -36,7 +39,7 @@ number_fits Signed w x = fits_number true w x
 number_fits Time w x = false
 number_fits LongTime w x = false
 
-unfoldable pub time_fits : Kind → General → Bool
+unfoldable pub time_fits : Kind → Option Moment → Bool
 time_fits Text t = false
 time_fits Unsigned t = false
 time_fits Count t = false
@@ -57,10 +60,10 @@ is_long LongTime = true
 unfoldable pub text_on : ℕ → List ℕ → Bool
 text_on k t = leb k 71 && text_fits (kind_of k) (width_of k) t
 
-unfoldable pub number_on : ℕ → Number → Bool
+unfoldable pub number_on : ℕ → Option ℤ → Bool
 number_on k x = leb k 71 && number_fits (kind_of k) (width_of k) x
 
-unfoldable pub time_on : ℕ → General → Bool
+unfoldable pub time_on : ℕ → Option Moment → Bool
 time_on k t = leb k 71 && time_fits (kind_of k) t
 
 -- ---- the line at the start of a
@@ -82,25 +85,25 @@ abbrev pub writes_line : List ℕ → ℕ → Bool → Said ℕ
 writes_line room n right = cond right (cond (leb n (length room)) (answer n) (refusal 18 n)) (refusal 22 0)
 
 -- the answers, and the frame where nothing is refused
-abbrev pub BeginsLine : List ℕ → ℕ → Bool → Written → List ℕ → Type 0
+abbrev pub BeginsLine : List ℕ → ℕ → Bool → Result ℕ Refusal → List ℕ → Type 0
 BeginsLine room k right r exit =
-    (said_written r ≡ writes_line room (width_of k + 33) right) × (exit ≡ wrote room (width_of k + 33) right (put_frame k (width_of k) room))
+    (said r ≡ writes_line room (width_of k + 33) right) × (exit ≡ wrote room (width_of k + 33) right (put_frame k (width_of k) room))
 
-abbrev pub WritesLine : List ℕ → ℕ → Bool → (List ℕ → List ℕ) → Written → List ℕ → Type 0
+abbrev pub WritesLine : List ℕ → ℕ → Bool → (List ℕ → List ℕ) → Result ℕ Refusal → List ℕ → Type 0
 WritesLine room k right put r exit =
-    (said_written r ≡ writes_line room (width_of k + 33) right) × (exit ≡ wrote room (width_of k + 33) right (put_line k put room))
+    (said r ≡ writes_line room (width_of k + 33) right) × (exit ≡ wrote room (width_of k + 33) right (put_line k put room))
 
-abbrev pub WritesTextLine : List ℕ → ℕ → List ℕ → Written → List ℕ → Type 0
+abbrev pub WritesTextLine : List ℕ → ℕ → List ℕ → Result ℕ Refusal → List ℕ → Type 0
 WritesTextLine room k t r exit = WritesLine room k (text_on k t) (λ (a : List ℕ). put_text a t) r exit
 
-abbrev pub WritesNumberLine : List ℕ → ℕ → Number → Written → List ℕ → Type 0
+abbrev pub WritesNumberLine : List ℕ → ℕ → Option ℤ → Result ℕ Refusal → List ℕ → Type 0
 WritesNumberLine room k x r exit = WritesLine room k (number_on k x) (λ (a : List ℕ). put_number (width_of k) a x) r exit
 
-abbrev pub WritesTimeLine : List ℕ → ℕ → General → Written → List ℕ → Type 0
+abbrev pub WritesTimeLine : List ℕ → ℕ → Option Moment → Result ℕ Refusal → List ℕ → Type 0
 WritesTimeLine room k t r exit = WritesLine room k (time_on k t) (λ (a : List ℕ). put_general (digits_of (is_long (kind_of k))) a t) r exit
 
 -- THE NAME of field k, unpadded, and then what the room held: 22 where the number is not 0..71, then 18 with the bytes of the name
-abbrev pub WritesName : List ℕ → ℕ → Written → List ℕ → Type 0
+abbrev pub WritesName : List ℕ → ℕ → Result ℕ Refusal → List ℕ → Type 0
 WritesName room k r exit =
-    (said_written r ≡ writes_line room (length (name_of k)) (leb k 71))
+    (said r ≡ writes_line room (length (name_of k)) (leb k 71))
     × (exit ≡ wrote room (length (name_of k)) (leb k 71) (name_of k ++ drop (length (name_of k)) room))

@@ -3,8 +3,9 @@
 use Rattle.std.specs.Prelude.{ℕ, suc, Bool, true, false, cond, List, [], ◌∷◌, eqb}
 use Rattle.mphr.specs.Layout.{rows}
 use Rattle.calendar.specs.Said.{Said, answer, refusal, refused}
-use Rattle.mphr.specs.declared.names.FieldNumber.{FieldNumber}
-use Rattle.mphr.specs.declared.names.FieldNumber.TheVariants as F
+use Rattle.std.specs.declared.result.Result.TheVariants.{Ok, Err}
+use Rattle.std.specs.declared.result.Result.{Result}
+use Rattle.calendar.specs.declared.Refusal.{Refusal}
 
 abbrev pub same : List ℕ → List ℕ → Bool
 same [] [] = true
@@ -19,8 +20,3 @@ look_from (r ∷ rs) i name = cond (same name r) (answer i) (look_from rs (suc i
 
 abbrev pub field_named : List ℕ → Said ℕ
 field_named name = look_from rows 0 name
-
--- what an answer says
-abbrev pub said_field : FieldNumber → Said ℕ
-said_field (F.Field k) = answer k
-said_field (F.Refused r) = refused r

@@ -2,8 +2,11 @@
 use Rattle.std.specs.Prelude.{ℕ, ◌≤◌, ◌≡◌, ◌⊎◌, List, length}
 use Rattle.mphr.specs.Layout.{line_start, LineAfter}
 use Rattle.mphr.specs.Table.{Fault, shown, Given, Clean}
-use Rattle.mphr.specs.declared.faults.Reached.{Reached}
-use Rattle.mphr.specs.declared.faults.Reached.TheVariants as R
+use Rattle.std.specs.declared.result.Result.TheVariants.{Ok, Err}
+use Rattle.std.specs.declared.result.Result.{Result}
+use Rattle.calendar.specs.declared.Refusal.{Refusal}
+use Rattle.mphr.specs.declared.faults.Line.{Line}
+use Rattle.mphr.specs.LineEnd.{line_end}
 
 -- the bytes before line k show no fault: at the first line, which is judged with the record header before it, nothing is asked
 abbrev pub Resumes : List ℕ → ℕ → Type 0
@@ -21,6 +24,6 @@ pub record UnderWay (n k e : ℕ) : Type 0 where
   pub end : LineAfter n e
 
 -- what is right to answer of an arrival's main header, to whoever goes on with it
-abbrev pub ReachedIs : List ℕ → Reached → Type 0
-ReachedIs a (R.Refused r) = Given a r.number r.place
-ReachedIs a (R.Line k e) = Clean a × UnderWay (length a) k e
+abbrev pub ReachedIs : List ℕ → Result Line Refusal → Type 0
+ReachedIs a (Err r) = Given a r.number r.place
+ReachedIs a (Ok t) = Clean a × UnderWay (length a) t.line t.end

@@ -9,8 +9,9 @@ use Rattle.meter.specs.General.{lead, number_of}
 use Rattle.record.specs.Times.{timed_at}
 use Rattle.text.specs.Field.{is_value}
 use Rattle.mphr.specs.Layout.{names, width_of, kind_of, line_start}
-use Rattle.mphr.specs.declared.faults.HeaderFault.{HeaderFault}
-use Rattle.mphr.specs.declared.faults.HeaderFault.TheVariants as F
+use Rattle.std.specs.declared.result.Result.TheVariants.{Ok, Err}
+use Rattle.std.specs.declared.result.Result.{Result}
+use Rattle.calendar.specs.declared.Refusal.{Refusal}
 
 -- row 1: the first header is of class 1, group 0, subclass 0 and size 3307
 unfoldable pub headed : List ℕ → Bool
@@ -107,6 +108,6 @@ abbrev pub Fine : List ℕ → Type 0
 Fine a = (g : Fault a) → number g ≤ 5 → ⊥
 
 -- what is right to answer of an arrival's main header
-abbrev pub FirstIs : List ℕ → HeaderFault → Type 0
-FirstIs a F.Clean = Clean a
-FirstIs a (F.Refused r) = Given a r.number r.place
+abbrev pub FirstIs : List ℕ → Result Unit Refusal → Type 0
+FirstIs a (Ok _) = Clean a
+FirstIs a (Err r) = Given a r.number r.place

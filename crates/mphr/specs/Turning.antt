@@ -6,9 +6,12 @@ use Rattle.text.specs.Field.{is_number}
 use Rattle.mphr.specs.Layout.{line_start}
 use Rattle.mphr.specs.Table.{declared, Sums, Fault, bad_header, bad_line, bad_size, bad_totals, bad_times}
 use Rattle.mphr.specs.Resumed.{ReachedIs}
-use Rattle.mphr.specs.declared.faults.Reached.TheVariants as R
-use Rattle.mphr.specs.declared.faults.Turned.{Turned}
-use Rattle.mphr.specs.declared.faults.Turned.TheVariants.{Stop, Go}
+use Rattle.std.specs.declared.result.Result.TheVariants.{Err}
+use Rattle.mphr.specs.declared.faults.Line.{Line}
+use Rattle.std.specs.declared.result.Result.{Result}
+use Rattle.calendar.specs.declared.Refusal.{Refusal}
+use Rattle.std.specs.declared.ops.ControlFlow.{ControlFlow}
+use Rattle.std.specs.declared.ops.ControlFlow.TheVariants.{Break, Continue}
 
 -- the n bytes of a from i on are those of t from j on
 abbrev pub Alike : List ℕ → List ℕ → ℕ → ℕ → ℕ → Type 0
@@ -56,9 +59,9 @@ pub record Gone (a : List ℕ) (k to : ℕ) : Type 0 where
   pub come : to ≤ length a
   pub past : Past a k → Past a (suc k)
 
-abbrev pub TurnedIs : List ℕ → ℕ → Turned → Type 0
-TurnedIs a k (Stop r) = Past a k → ReachedIs a r
-TurnedIs a k (Go to) = Gone a k to
+abbrev pub TurnedIs : List ℕ → ℕ → ControlFlow (Result Line Refusal) ℕ → Type 0
+TurnedIs a k (Break r) = Past a k → ReachedIs a r
+TurnedIs a k (Continue to) = Gone a k to
 
-abbrev pub refused_at : ℕ → ℕ → Turned
-refused_at n p = Stop (R.Refused (refusing n p))
+abbrev pub refused_at : ℕ → ℕ → ControlFlow (Result Line Refusal) ℕ
+refused_at n p = Break (Err (refusing n p))

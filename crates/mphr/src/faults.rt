@@ -2,35 +2,21 @@
 // first line that has not wholly come, and goes on from there where it is asked again.
 ghost use Rattle.std.specs.Prelude.{◌≡◌, ◌+◌, ◌*◌, ◌≤◌, ◌<◌, length, get_or};
 ghost use Rattle.meter.specs.Integer.{be_at};
-ghost use Rattle.mphr.specs.Layout.{names, widths, codes, width_of, line_start};
+ghost use Rattle.mphr.specs.Layout.{names, widths, kinds, width_of, line_start};
 ghost use Rattle.mphr.specs.Table.{headed, named, framed, total, sum, FirstIs};
 ghost use Rattle.mphr.specs.Resumed.{Resumes, ReachedIs};
 ghost use Rattle.mphr.specs.Turning.{AlikeIs, Numbered, Later, Counts, Ready, Past, TurnedIs, refused_at};
 
 use crate::layout::{KINDS, NAMES, WIDTHS, kind_at, start, width_at};
-use calendar::Refusal;
-use meter::integer::Unsigned;
-use text::count_at;
+use calendar::{Refusal, fault};
+use std::ops::ControlFlow;
+use text::{Kind, count_at};
 
-// The first fault that is shown, or none.
+// The line that is under way, and where it ends.
 #[derive(Clone, Copy)]
-pub enum HeaderFault {
-    Clean,
-    Refused(Refusal),
-}
-
-// What has come: the first fault that is shown; or none, with the line that is under way and where it ends.
-#[derive(Clone, Copy)]
-pub enum Reached {
-    Refused(Refusal),
-    Line { line: usize, end: usize },
-}
-
-// What a line comes to.
-#[derive(Clone, Copy)]
-enum Turned {
-    Stop(Reached),
-    Go(usize),
+pub struct Line {
+    pub line: usize,
+    pub end: usize,
 }
 
 fn is_headed(s: &[u8]) -> bool
@@ -47,8 +33,8 @@ fn is_headed(s: &[u8]) -> bool
         return false;
     }
     match meter::integer::read_unsigned(s, 4, 4) {
-        Unsigned::Value(size) => size == 3307,
-        Unsigned::Refused(_) => false,
+        Ok(size) => size == 3307,
+        Err(_) => false,
     }
 }
 
@@ -97,12 +83,10 @@ fn is_named(s: &[u8], table: &[u8], k: usize, at: usize) -> bool
     requires { (k < 72) × (at ≡ line_start k) × (at + 30 ≤ length s.now) × (table.now ≡ names) }
     ensures { result ≡ named s.now k }
 {
-    let mut i: usize = 0;
-    while i < 3 {
+    for i in 0..3 {
         if !is_alike(s, at + 10 * i, table, 30 * k + 10 * i) {
             return false;
         }
-        i += 1;
     }
     true
 }
@@ -135,10 +119,8 @@ fn sum_of(s: &[u8]) -> u64
     ensures { Counts s.now → result ≡ sum s.now 8 }
 {
     let mut v: u64 = 0;
-    let mut j: usize = 0;
-    while j < 8 {
-        v = v + total_of(s, j + 1);
-        j += 1;
+    for j in 1..9 {
+        v = v + total_of(s, j);
     }
     v
 }
@@ -172,47 +154,47 @@ fn later(s: &[u8], k: usize) -> usize
     0
 }
 
-fn refused(number: u8, place: usize) -> Turned
+fn refused(number: u8, place: usize) -> ControlFlow<Result<Line, Refusal>, usize>
     ensures { result ≡ refused_at number place }
 {
-    Turned::Stop(Reached::Refused(Refusal { number, place }))
+    ControlFlow::Break(Err(Refusal { number, place }))
 }
 
-// One line.
+// One line: the answer where it is the last that is looked at, or where the next one starts.
 fn turn(
     s: &[u8],
     table: &[u8],
     width_table: &[u8; 72],
-    kind_table: &[u8; 72],
+    kind_table: &[Kind; 72],
     k: usize,
     at: usize,
-) -> Turned
-    requires { Ready s.now k at × (table.now ≡ names) × (width_table.now ≡ widths) × (kind_table.now ≡ codes) }
+) -> ControlFlow<Result<Line, Refusal>, usize>
+    requires { Ready s.now k at × (table.now ≡ names) × (width_table.now ≡ widths) × (kind_table.now ≡ kinds) }
     ensures { TurnedIs s.now k result }
 {
     let w = width_at(width_table, k);
     let to = at + w + 33;
     if s.len() < to {
-        return Turned::Stop(Reached::Line { line: k, end: to });
+        return ControlFlow::Break(Ok(Line { line: k, end: to }));
     }
     if !is_framed(s, table, k, at, w) {
-        return refused(2, at);
+        return refused(fault::LINE, at);
     }
     if !text::is_value(s, at + 32, w, kind_at(kind_table, k)) {
-        return refused(3, at + 32);
+        return refused(fault::VALUE, at + 32);
     }
     let h = later(s, k);
     if h == 4 {
-        return refused(4, 1485);
+        return refused(fault::DECLARED_SIZE, 1485);
     }
     if h == 5 {
-        return refused(5, 2675);
+        return refused(fault::TOTALS, 2675);
     }
-    Turned::Go(to)
+    ControlFlow::Continue(to)
 }
 
 // The lines from `line` on, which starts at `from`.
-fn walk(s: &[u8], line: usize, from: usize) -> Reached
+fn walk(s: &[u8], line: usize, from: usize) -> Result<Line, Refusal>
     requires { Ready s.now line from }
     ensures { Past s.now line → ReachedIs s.now result }
 {
@@ -220,41 +202,39 @@ fn walk(s: &[u8], line: usize, from: usize) -> Reached
     let table = NAMES;
     let width_table = WIDTHS;
     let kind_table = KINDS;
-    let mut k = line;
     let mut at = from;
-    while k < 72 {
+    for k in line..72 {
         match turn(s, &table, &width_table, &kind_table, k, at) {
-            Turned::Stop(r) => {
+            ControlFlow::Break(r) => {
                 return r;
             }
-            Turned::Go(to) => {
+            ControlFlow::Continue(to) => {
                 at = to;
-                k += 1;
             }
         }
     }
-    Reached::Line {
+    Ok(Line {
         line: 72,
         end: 3307,
-    }
+    })
 }
 
 // The record header and the lines.
-fn from_first(s: &[u8]) -> Reached
+fn from_first(s: &[u8]) -> Result<Line, Refusal>
     ensures { ReachedIs s.now result }
 {
     if s.len() < 20 {
-        return Reached::Line { line: 0, end: 20 };
+        return Ok(Line { line: 0, end: 20 });
     }
     if !is_headed(s) {
-        return Reached::Refused(Refusal {
-            number: 1,
+        return Err(Refusal {
+            number: fault::FIRST_HEADER,
             place: 0,
         });
     }
     if !record::times::times_stand(s, 0) {
-        return Reached::Refused(Refusal {
-            number: 10,
+        return Err(Refusal {
+            number: fault::RECORD_TIMES,
             place: 0,
         });
     }
@@ -262,7 +242,7 @@ fn from_first(s: &[u8]) -> Reached
 }
 
 // The lines from `line` on, where the bytes before it are right; the record header and all lines where `line` is 0, or has not come.
-pub fn lines_from(s: &[u8], line: usize) -> Reached
+pub fn lines_from(s: &[u8], line: usize) -> Result<Line, Refusal>
     ensures { Resumes s.now line → ReachedIs s.now result }
 {
     if line == 0 {
@@ -279,11 +259,9 @@ pub fn lines_from(s: &[u8], line: usize) -> Reached
 }
 
 // The first fault that an arrival shows of the main product header: shown earliest, then of the lowest number, then at the lowest place.
-pub fn header_fault(s: &[u8]) -> HeaderFault
+pub fn header_fault(s: &[u8]) -> Result<(), Refusal>
     ensures { FirstIs s.now result }
 {
-    match lines_from(s, 0) {
-        Reached::Refused(r) => HeaderFault::Refused(r),
-        Reached::Line { line: _, end: _ } => HeaderFault::Clean,
-    }
+    lines_from(s, 0)?;
+    Ok(())
 }

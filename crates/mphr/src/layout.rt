@@ -1,11 +1,12 @@
 // Where each of the 72 lines stands, what it is called, and of which kind and width its value is.
 ghost use Rattle.std.specs.Prelude.{◌≡◌, ◌≤◌, ◌<◌, get_or};
-ghost use Rattle.mphr.specs.Layout.{name_of, widths, code_of, kind_from, codes, width_of, kind_of, line_start};
-ghost use Rattle.mphr.specs.Layout.{field_of, said_place};
+ghost use Rattle.calendar.specs.Said.{said};
+ghost use Rattle.mphr.specs.Layout.{name_of, widths, kinds, width_of, kind_of, line_start};
+ghost use Rattle.mphr.specs.Layout.{field_of};
 ghost use Rattle.mphr.specs.Quick.{words_of, joined, byte_of};
 
 use crate::rows::{end_0, end_1, end_2, head_0, head_1, head_2};
-use calendar::Refusal;
+use calendar::{Refusal, fault};
 use text::Kind;
 
 // A field: where its line starts, how wide its value is, and of which kind.
@@ -14,12 +15,6 @@ pub struct Place {
     pub start: usize,
     pub width: usize,
     pub kind: Kind,
-}
-
-#[derive(Clone, Copy)]
-pub enum FieldPlace {
-    Place(Place),
-    Refused(Refusal),
 }
 
 pub(crate) const NAMES: [u8; 2160] = *b"\
@@ -110,26 +105,79 @@ const STARTS: [usize; 72] = [
     3111, 3150, 3191, 3232, 3273,
 ];
 
-// The kinds as numbers: an array of enums cannot be lent.
-pub(crate) const TEXT: u8 = 0;
-
-pub(crate) const UNSIGNED: u8 = 1;
-
-pub(crate) const COUNT: u8 = 2;
-
-pub(crate) const SIGNED: u8 = 3;
-
-pub(crate) const TIME: u8 = 4;
-
-pub(crate) const LONG_TIME: u8 = 5;
-
-pub(crate) const KINDS: [u8; 72] = [
-    TEXT, TEXT, TEXT, TEXT, TEXT, TEXT, TEXT, TEXT, TEXT, TEXT, TIME, TIME, TIME, TIME, TEXT,
-    UNSIGNED, UNSIGNED, UNSIGNED, UNSIGNED, TIME, TIME, TEXT, TEXT, TEXT, TIME, TIME, UNSIGNED,
-    UNSIGNED, COUNT, LONG_TIME, SIGNED, SIGNED, SIGNED, SIGNED, SIGNED, SIGNED, SIGNED, SIGNED,
-    SIGNED, SIGNED, SIGNED, SIGNED, SIGNED, SIGNED, SIGNED, SIGNED, SIGNED, SIGNED, SIGNED, SIGNED,
-    SIGNED, SIGNED, SIGNED, SIGNED, TIME, COUNT, COUNT, COUNT, COUNT, COUNT, COUNT, COUNT, COUNT,
-    COUNT, UNSIGNED, UNSIGNED, UNSIGNED, UNSIGNED, UNSIGNED, UNSIGNED, UNSIGNED, TEXT,
+pub(crate) const KINDS: [Kind; 72] = [
+    Kind::Text,
+    Kind::Text,
+    Kind::Text,
+    Kind::Text,
+    Kind::Text,
+    Kind::Text,
+    Kind::Text,
+    Kind::Text,
+    Kind::Text,
+    Kind::Text,
+    Kind::Time,
+    Kind::Time,
+    Kind::Time,
+    Kind::Time,
+    Kind::Text,
+    Kind::Unsigned,
+    Kind::Unsigned,
+    Kind::Unsigned,
+    Kind::Unsigned,
+    Kind::Time,
+    Kind::Time,
+    Kind::Text,
+    Kind::Text,
+    Kind::Text,
+    Kind::Time,
+    Kind::Time,
+    Kind::Unsigned,
+    Kind::Unsigned,
+    Kind::Count,
+    Kind::LongTime,
+    Kind::Signed,
+    Kind::Signed,
+    Kind::Signed,
+    Kind::Signed,
+    Kind::Signed,
+    Kind::Signed,
+    Kind::Signed,
+    Kind::Signed,
+    Kind::Signed,
+    Kind::Signed,
+    Kind::Signed,
+    Kind::Signed,
+    Kind::Signed,
+    Kind::Signed,
+    Kind::Signed,
+    Kind::Signed,
+    Kind::Signed,
+    Kind::Signed,
+    Kind::Signed,
+    Kind::Signed,
+    Kind::Signed,
+    Kind::Signed,
+    Kind::Signed,
+    Kind::Signed,
+    Kind::Time,
+    Kind::Count,
+    Kind::Count,
+    Kind::Count,
+    Kind::Count,
+    Kind::Count,
+    Kind::Count,
+    Kind::Count,
+    Kind::Count,
+    Kind::Count,
+    Kind::Unsigned,
+    Kind::Unsigned,
+    Kind::Unsigned,
+    Kind::Unsigned,
+    Kind::Unsigned,
+    Kind::Unsigned,
+    Kind::Unsigned,
+    Kind::Text,
 ];
 
 fn joined(head: [u64; 3], end: [u64; 2]) -> [u64; 5]
@@ -189,33 +237,13 @@ pub(crate) fn start(k: usize) -> usize
     STARTS[k]
 }
 
-fn kind_of(code: u8) -> Kind
-    ensures { result ≡ kind_from code }
-{
-    if code == TEXT {
-        return Kind::Text;
-    }
-    if code == UNSIGNED {
-        return Kind::Unsigned;
-    }
-    if code == COUNT {
-        return Kind::Count;
-    }
-    if code == SIGNED {
-        return Kind::Signed;
-    }
-    if code == TIME {
-        return Kind::Time;
-    }
-    Kind::LongTime
-}
-
 // The kind of line k, by the array that is lent.
-pub(crate) fn kind_at(table: &[u8; 72], k: usize) -> Kind
-    requires { (k < 72) × (table.now ≡ codes) }
+#[tactic(auto, unfolding(crate::specs::Layout::kind_of))]
+pub(crate) fn kind_at(table: &[Kind; 72], k: usize) -> Kind
+    requires { (k < 72) × (table.now ≡ kinds) }
     ensures { result ≡ kind_of k }
 {
-    kind_of(table[k])
+    table[k]
 }
 
 pub(crate) fn kind(k: usize) -> Kind
@@ -226,25 +254,17 @@ pub(crate) fn kind(k: usize) -> Kind
     kind_at(&table, k)
 }
 
-// The number of the kind of line k.
-pub(crate) fn code(k: usize) -> u8
-    requires { k < 72 }
-    ensures { result ≡ code_of (kind_of k) }
-{
-    KINDS[k]
-}
-
 // The place of a field by its number; 22 where the number is not 0 to 71.
-pub fn field_place(k: usize) -> FieldPlace
-    ensures { said_place result ≡ field_of k }
+pub fn field_place(k: usize) -> Result<Place, Refusal>
+    ensures { said result ≡ field_of k }
 {
     if k > 71 {
-        return FieldPlace::Refused(Refusal {
-            number: 22,
+        return Err(Refusal {
+            number: fault::NO_FIELD,
             place: 0,
         });
     }
-    FieldPlace::Place(Place {
+    Ok(Place {
         start: start(k),
         width: width(k),
         kind: kind(k),

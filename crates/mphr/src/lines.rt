@@ -4,69 +4,68 @@ ghost use Rattle.mphr.specs.Layout.{width_of, kind_of};
 ghost use Rattle.mphr.specs.Lines.{count_fits, is_long, text_on, number_on, time_on, put_name, put_frame, BeginsLine};
 ghost use Rattle.mphr.specs.Lines.{WritesTextLine, WritesNumberLine, WritesTimeLine};
 
-use crate::layout::{COUNT, LONG_TIME, SIGNED, TEXT, TIME, UNSIGNED, byte_of, code, width, words};
-use calendar::Refusal;
-use meter::general::General;
-use meter::integer::Written;
-use text::Number;
+use crate::layout::{byte_of, kind, width, words};
+use calendar::{Refusal, fault};
+use meter::general::Moment;
+use text::Kind;
 
+#[tactic(auto, unfolding(crate::specs::Lines::text_on, crate::specs::Lines::text_fits))]
 fn text_on(k: usize, text: &[u8]) -> bool
     ensures { result ≡ text_on k text.now }
 {
     if k > 71 {
         return false;
     }
-    if code(k) != TEXT {
-        return false;
+    match kind(k) {
+        Kind::Text => text::fits_text(width(k), text),
+        _ => false,
     }
-    text::fits_text(width(k), text)
 }
 
-fn count_fits(w: usize, number: Number) -> bool
+fn count_fits(w: usize, number: Option<i64>) -> bool
     ensures { result ≡ count_fits w number }
 {
     match number {
-        Number::Undefined => false,
-        Number::Whole(_) => text::fits_number(false, w, number),
+        None => false,
+        Some(_) => text::fits_number(false, w, number),
     }
 }
 
-fn number_on(k: usize, number: Number) -> bool
+#[tactic(auto, unfolding(crate::specs::Lines::number_on, crate::specs::Lines::number_fits))]
+fn number_on(k: usize, number: Option<i64>) -> bool
     ensures { result ≡ number_on k number }
 {
     if k > 71 {
         return false;
     }
-    let d = code(k);
-    if d == UNSIGNED {
-        return text::fits_number(false, width(k), number);
+    match kind(k) {
+        Kind::Unsigned => text::fits_number(false, width(k), number),
+        Kind::Count => count_fits(width(k), number),
+        Kind::Signed => text::fits_number(true, width(k), number),
+        _ => false,
     }
-    if d == COUNT {
-        return count_fits(width(k), number);
-    }
-    if d == SIGNED {
-        return text::fits_number(true, width(k), number);
-    }
-    false
 }
 
+#[tactic(auto, unfolding(crate::specs::Lines::is_long))]
 fn is_long(k: usize) -> bool
     requires { k < 72 }
     ensures { result ≡ is_long (kind_of k) }
 {
-    code(k) == LONG_TIME
+    matches!(kind(k), Kind::LongTime)
 }
 
-fn time_on(k: usize, time: General) -> bool
+#[tactic(auto, unfolding(crate::specs::Lines::time_on, crate::specs::Lines::time_fits))]
+fn time_on(k: usize, time: Option<Moment>) -> bool
     ensures { result ≡ time_on k time }
 {
     if k > 71 {
         return false;
     }
-    if code(k) < TIME {
-        return false;
+    match kind(k) {
+        Kind::Time => meter::general::fits_general(false, time),
+        Kind::LongTime => meter::general::fits_general(true, time),
+        _ => false,
     }
-    meter::general::fits_general(is_long(k), time)
 }
 
 // The first n bytes of the padded name of field k, at the start of the room.
@@ -75,9 +74,7 @@ pub(crate) fn put_name(room: &mut [u8], k: usize, n: usize)
     ensures { room.new ≡ put_name room.old k n }
 {
     let row = words(k);
-    let mut i: usize = n;
-    while 0 < i {
-        i -= 1;
+    for i in (0..n).rev() {
         room[i] = byte_of(row[i / 8], i % 8);
     }
 }
@@ -94,56 +91,56 @@ fn put_frame(room: &mut [u8], k: usize, w: usize)
 }
 
 // 22 unless the value fits the field, then 18; where neither is refused, the line's frame.
-fn begin_line(room: &mut [u8], k: usize, fits: bool) -> Written
+fn begin_line(room: &mut [u8], k: usize, fits: bool) -> Result<usize, Refusal>
     requires { fits ≡ true → k < 72 }
     ensures { BeginsLine room.old k fits result room.new }
 {
     if !fits {
-        return Written::Refused(Refusal {
-            number: 22,
+        return Err(Refusal {
+            number: fault::NO_FIELD,
             place: 0,
         });
     }
     let w = width(k);
     if room.len() < w + 33 {
-        return Written::Refused(Refusal {
-            number: 18,
+        return Err(Refusal {
+            number: fault::ROOM,
             place: w + 33,
         });
     }
     put_frame(room, k, w);
-    Written::Bytes(w + 33)
+    Ok(w + 33)
 }
 
-pub fn write_text_line(room: &mut [u8], k: usize, text: &[u8]) -> Written
+pub fn write_text_line(room: &mut [u8], k: usize, text: &[u8]) -> Result<usize, Refusal>
     ensures { WritesTextLine room.old k text.now result room.new }
 {
     let begun = begin_line(room, k, text_on(k, text));
-    let Written::Bytes(_) = begun else {
+    let Ok(_) = begun else {
         return begun;
     };
-    text::write_text(&mut room[32..], text.len(), text);
+    let _ = text::write_text(&mut room[32..], text.len(), text);
     begun
 }
 
-pub fn write_number_line(room: &mut [u8], k: usize, number: Number) -> Written
+pub fn write_number_line(room: &mut [u8], k: usize, number: Option<i64>) -> Result<usize, Refusal>
     ensures { WritesNumberLine room.old k number result room.new }
 {
     let begun = begin_line(room, k, number_on(k, number));
-    let Written::Bytes(_) = begun else {
+    let Ok(_) = begun else {
         return begun;
     };
-    text::write_number(&mut room[32..], width(k), true, number);
+    let _ = text::write_number(&mut room[32..], width(k), true, number);
     begun
 }
 
-pub fn write_time_line(room: &mut [u8], k: usize, time: General) -> Written
+pub fn write_time_line(room: &mut [u8], k: usize, time: Option<Moment>) -> Result<usize, Refusal>
     ensures { WritesTimeLine room.old k time result room.new }
 {
     let begun = begin_line(room, k, time_on(k, time));
-    let Written::Bytes(_) = begun else {
+    let Ok(_) = begun else {
         return begun;
     };
-    meter::general::write_general(&mut room[32..], is_long(k), time);
+    let _ = meter::general::write_general(&mut room[32..], is_long(k), time);
     begun
 }

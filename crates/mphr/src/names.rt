@@ -1,7 +1,8 @@
 // The field that has a name, and the name of a field.
 ghost use Rattle.std.specs.Prelude.{◌≡◌, ◌<◌, length};
+ghost use Rattle.calendar.specs.Said.{said};
 ghost use Rattle.mphr.specs.Layout.{name_of};
-ghost use Rattle.mphr.specs.Lookup.{same, field_named, said_field};
+ghost use Rattle.mphr.specs.Lookup.{same, field_named};
 ghost use Rattle.mphr.specs.Lines.{WritesName};
 ghost use Rattle.mphr.specs.Quick.{agrees, likely_of};
 
@@ -9,14 +10,7 @@ use crate::faults::{eight, wide};
 use crate::layout::{byte_of, size_of, words};
 use crate::lines::put_name;
 use crate::rows::{BY_FIRST, BY_LAST, BY_MIDDLE, fields_at, letters_of};
-use calendar::Refusal;
-use meter::integer::Written;
-
-#[derive(Clone, Copy)]
-pub enum FieldNumber {
-    Field(usize),
-    Refused(Refusal),
-}
+use calendar::{Refusal, fault};
 
 // w is the number of the eight bytes from `at` on, where there are so many.
 fn agrees(name: &[u8], at: usize, w: u64) -> bool
@@ -74,17 +68,17 @@ fn likely(name: &[u8]) -> usize
 }
 
 // The number of the field whose unpadded name the lent bytes are; 22 where there is none.
-pub fn field_named(name: &[u8]) -> FieldNumber
-    ensures { said_field result ≡ field_named name.now }
+pub fn field_named(name: &[u8]) -> Result<usize, Refusal>
+    ensures { said result ≡ field_named name.now }
 {
     let k = likely(name);
     if k < 72 {
         if matches(name, k) {
-            return FieldNumber::Field(k);
+            return Ok(k);
         }
     }
-    FieldNumber::Refused(Refusal {
-        number: 22,
+    Err(Refusal {
+        number: fault::NO_FIELD,
         place: 0,
     })
 }
@@ -99,22 +93,22 @@ fn name_width(k: usize) -> usize
 }
 
 // The unpadded name of field k at the start of the room; 22 where the number is not 0 to 71, then 18 with the bytes of the name.
-pub fn write_name(room: &mut [u8], k: usize) -> Written
+pub fn write_name(room: &mut [u8], k: usize) -> Result<usize, Refusal>
     ensures { WritesName room.old k result room.new }
 {
     if k > 71 {
-        return Written::Refused(Refusal {
-            number: 22,
+        return Err(Refusal {
+            number: fault::NO_FIELD,
             place: 0,
         });
     }
     let n = name_width(k);
     if room.len() < n {
-        return Written::Refused(Refusal {
-            number: 18,
+        return Err(Refusal {
+            number: fault::ROOM,
             place: n,
         });
     }
     put_name(room, k, n);
-    Written::Bytes(n)
+    Ok(n)
 }

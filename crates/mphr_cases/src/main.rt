@@ -4,18 +4,15 @@
 // many cases of each kind agreed, and how many prefixes, and each disagreement whole.
 #![tactic(auto)]
 
-use calendar::Date;
+use calendar::{Date, Refusal};
 use cases::answer::{Answer, judged, refused, value, written};
 use cases::counts::{Counts, counted, none, print_counts};
 use cases::input::{byte, fitting, is_same, part, read, word};
-use meter::general::{General, Moment};
-use meter::integer::{Signed, Written};
-use mphr::faults::HeaderFault;
-use mphr::layout::{FieldPlace, Place};
-use mphr::names::FieldNumber;
+use meter::general::Moment;
+use mphr::layout::Place;
 use std::io;
 use std::io::{Read, Write};
-use text::{Kind, Number};
+use text::Kind;
 
 // The names of the kinds, 20 bytes each; the last is for the prefixes of headers.
 const NAMES: [u8; 160] = *b"\
@@ -34,26 +31,23 @@ fn lent(case: &[u8]) -> &[u8] {
     part(case, 8, byte(case, 2) as usize)
 }
 
-fn number_in(case: &[u8]) -> Number {
+fn number_in(case: &[u8]) -> Option<i64> {
     if byte(case, 3) == 1 {
-        return Number::Undefined;
+        return None;
     }
-    match meter::integer::read_signed(case, 8, 8) {
-        Signed::Value(v) => Number::Whole(v),
-        Signed::Refused(_) => Number::Undefined,
-    }
+    meter::integer::read_signed(case, 8, 8).ok()
 }
 
-fn time_in(case: &[u8]) -> General {
+fn time_in(case: &[u8]) -> Option<Moment> {
     if byte(case, 3) == 1 {
-        return General::Undefined;
+        return None;
     }
     let date = Date {
         year: (word(case, 8, 2) % 65536) as u16,
         month: byte(case, 10),
         day: byte(case, 11),
     };
-    General::At(Moment {
+    Some(Moment {
         date,
         hour: byte(case, 12),
         minute: byte(case, 13),
@@ -63,7 +57,7 @@ fn time_in(case: &[u8]) -> General {
 }
 
 // ---- the cases, by their kinds
-fn write_into(case: &[u8], room: &mut [u8]) -> Written {
+fn write_into(case: &[u8], room: &mut [u8]) -> Result<usize, Refusal> {
     let k = word(case, 4, 4) as usize;
     let kind = byte(case, 0);
     match kind {
@@ -86,8 +80,7 @@ fn run_writer(case: &[u8]) -> Answer {
 }
 
 fn place_value(p: Place) -> Answer {
-    let kind = p.kind;
-    let c: u64 = match kind {
+    let kind: u64 = match p.kind {
         Kind::Text => 0,
         Kind::Unsigned => 1,
         Kind::Count => 2,
@@ -95,19 +88,19 @@ fn place_value(p: Place) -> Answer {
         Kind::Time => 4,
         Kind::LongTime => 5,
     };
-    value(p.start as u64, p.width as u64, c)
+    value(p.start as u64, p.width as u64, kind)
 }
 
 fn answered(case: &[u8]) -> Answer {
     let kind = byte(case, 0);
     match kind {
         4 => match mphr::names::field_named(lent(case)) {
-            FieldNumber::Field(k) => value(k as u64, 0, 0),
-            FieldNumber::Refused(r) => refused(r, true),
+            Ok(k) => value(k as u64, 0, 0),
+            Err(r) => refused(r, true),
         },
         5 => match mphr::layout::field_place(word(case, 4, 4) as usize) {
-            FieldPlace::Place(p) => place_value(p),
-            FieldPlace::Refused(r) => refused(r, true),
+            Ok(p) => place_value(p),
+            Err(r) => refused(r, true),
         },
         _ => run_writer(case),
     }
@@ -122,8 +115,8 @@ fn agreed<W: Write>(out: &mut W, case: &[u8], at: usize, x: Answer, n: usize) ->
 // ---- headers: the refusal at 80 is due from the arrival length at 4 on, and before it the answer at 112
 fn prefix_agrees<W: Write>(out: &mut W, case: &[u8], header: &[u8], n: usize) -> io::Result<bool> {
     let x = match mphr::faults::header_fault(part(header, 0, n)) {
-        HeaderFault::Clean => value(0, 0, 0),
-        HeaderFault::Refused(r) => refused(r, true),
+        Ok(()) => value(0, 0, 0),
+        Err(r) => refused(r, true),
     };
     if (n as u64) < word(case, 4, 4) {
         return agreed(out, case, 112, x, n);

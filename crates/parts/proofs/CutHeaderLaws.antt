@@ -16,10 +16,11 @@ use lib.Seq.{get_or-take, get_or-drop, get_or-append-add, length-take-le}
 use Rattle.meter.specs.Integer.{Bytes, be_at}
 use Rattle.meter.specs.Time.{last_milli, is_time, time_of, time_at, compared}
 use Rattle.meter.specs.General.{moment_of, put_moment, put_x, run_of, lead, fits_general}
+use Rattle.std.specs.declared.option.Option.TheVariants.{Some, None}
+use Rattle.std.specs.declared.option.Option.{Option}
+use Rattle.meter.specs.declared.general.Moment.{Moment}
 use Rattle.meter.specs.declared.time.Time.{Time}
-use Rattle.meter.specs.declared.time.Time.TheVariants as T
-use Rattle.meter.specs.declared.general.General.{General}
-use Rattle.meter.specs.declared.general.General.TheVariants as G
+use Rattle.meter.specs.Instant as T
 use Rattle.meter.proofs.IntegerLaws.{be_at_lt}
 use Rattle.meter.proofs.GeneralRuns.{each_in, in_each}
 use Rattle.meter.proofs.GeneralRuns.{In as Within}
@@ -29,7 +30,6 @@ use Rattle.record.specs.Times.{is_after, timed_at}
 use Rattle.record.proofs.FieldLaws.{both}
 use Rattle.text.specs.Field.{is_text, is_value}
 use Rattle.text.specs.Writing.{fits_text}
-use Rattle.text.specs.declared.Number.TheVariants as N
 use Rattle.mphr.specs.Layout.{fields, widths, kinds, width_of, kind_of, line_start}
 use Rattle.mphr.specs.Table.{valued}
 use Rattle.mphr.specs.Lines.{text_fits, number_fits, time_fits, is_long}
@@ -128,28 +128,28 @@ counts_fit rs l h f =
     )
 
 -- ---- times
-abbrev pub Valid : Time → Type 0
-Valid T.Undefined = Unit
-Valid (T.At d m) = (d < 65536) × (m ≤ last_milli d)
+abbrev pub Valid : Option Time → Type 0
+Valid None = Unit
+Valid (Some t) = (t.day < 65536) × (t.milli ≤ last_milli t.day)
 
 valid_bits : (bits : ℕ) → bits < 256 ^ 6 → is_time (time_of bits) ≡ true → Valid (time_of bits)
 valid_bits bits h e = go (eqb bits 0xffff_ffff_ffff) e
   where
-    go : (b : Bool) → is_time (cond b T.Undefined (T.At (bits / 0x1_0000_0000) (bits % 0x1_0000_0000))) ≡ true → Valid (cond b T.Undefined (T.At (bits / 0x1_0000_0000) (bits % 0x1_0000_0000)))
+    go : (b : Bool) → is_time (cond b None (T.At (bits / 0x1_0000_0000) (bits % 0x1_0000_0000))) ≡ true → Valid (cond b None (T.At (bits / 0x1_0000_0000) (bits % 0x1_0000_0000)))
     go true e = tt
     go false e = (omega arith, leb-true (bits % 0x1_0000_0000) (last_milli (bits / 0x1_0000_0000)) e)
 
-picked : (b : Bool) (t u : Time) → Valid t → Valid u → Valid (cond b t u)
+picked : (b : Bool) (t u : Option Time) → Valid t → Valid u → Valid (cond b t u)
 picked true t u v w = v
 picked false t u v w = w
 
-valid_sooner : (t u : Time) → Valid t → Valid u → Valid (sooner t u)
-valid_sooner T.Undefined u v w = w
-valid_sooner (T.At d m) u v w = picked (is_after (compared (T.At d m) u)) u (T.At d m) w v
+valid_sooner : (t u : Option Time) → Valid t → Valid u → Valid (sooner t u)
+valid_sooner None u v w = w
+valid_sooner (Some t) u v w = picked (is_after (compared (T.At t.day t.milli) u)) u (T.At t.day t.milli) w v
 
-valid_later : (t u : Time) → Valid t → Valid u → Valid (later t u)
-valid_later T.Undefined u v w = w
-valid_later (T.At d m) u v w = picked (is_after (compared u (T.At d m))) u (T.At d m) w v
+valid_later : (t u : Option Time) → Valid t → Valid u → Valid (later t u)
+valid_later None u v w = w
+valid_later (Some t) u v w = picked (is_after (compared u (T.At t.day t.milli))) u (T.At t.day t.milli) w v
 
 pub own_times : (r : List ℕ) → timed_at r 0 ≡ true → (is_time (time_at r 8) ≡ true) × (is_time (time_at r 14) ≡ true)
 unfolding timed_at
@@ -159,20 +159,20 @@ own_times r e = both (is_time (time_at r 8)) (is_time (time_at r 14)) (both (is_
 pub time_valid : (r : List ℕ) (at : ℕ) → Bytes r → is_time (time_at r at) ≡ true → Valid (time_at r at)
 time_valid r at f = valid_bits (be_at r at 6) (be_at_lt r f at 6)
 
-first_valid : (t : Time) (rs : List (List ℕ)) → Valid t → ((r : List ℕ) → In r rs → Valid (time_at r 8)) → Valid (first_from t rs)
+first_valid : (t : Option Time) (rs : List (List ℕ)) → Valid t → ((r : List ℕ) → In r rs → Valid (time_at r 8)) → Valid (first_from t rs)
 first_valid t [] v f = v
 first_valid t (r ∷ rs) v f = first_valid (sooner t (time_at r 8)) rs (valid_sooner t (time_at r 8) v (f r (top refl))) (λ x n. f x (pop n))
 
-last_valid : (t : Time) (rs : List (List ℕ)) → Valid t → ((r : List ℕ) → In r rs → Valid (time_at r 14)) → Valid (last_from t rs)
+last_valid : (t : Option Time) (rs : List (List ℕ)) → Valid t → ((r : List ℕ) → In r rs → Valid (time_at r 14)) → Valid (last_from t rs)
 last_valid t [] v f = v
 last_valid t (r ∷ rs) v f = last_valid (later t (time_at r 14)) rs (valid_later t (time_at r 14) v (f r (top refl))) (λ x n. f x (pop n))
 
-second_fits : (t : Time) → Valid t → fits_general false (to_second t) ≡ true
+second_fits : (t : Option Time) → Valid t → fits_general false (to_second t) ≡ true
 unfolding moment_of
-second_fits T.Undefined v = refl
-second_fits (T.At d m) (h, l) =
-    let e : m / 1000 * 1000 % 1000 ≡ 0 = omega arith in
-    rw (moment_valid d (m / 1000 * 1000) h (omega arith), eq-eqb (m / 1000 * 1000 % 1000) 0 e)
+second_fits None v = refl
+second_fits (Some t) (h, l) =
+    let e : t.milli / 1000 * 1000 % 1000 ≡ 0 = omega arith in
+    rw (moment_valid t.day (t.milli / 1000 * 1000) h (omega arith), eq-eqb (t.milli / 1000 * 1000 % 1000) 0 e)
 
 -- ---- texts
 abbrev pub Print : List ℕ → Type 0
@@ -196,27 +196,27 @@ print_take n xs p j h =
 pub print_drop : (n : ℕ) (xs : List ℕ) → Print xs → Print (drop n xs)
 print_drop n xs p j h = rw (get_or-drop n xs j 0) (p (n + j) (omega (arith, length-drop n xs)))
 
-none_text : Print (stamp G.Undefined)
+none_text : Print (stamp None)
 unfolding put_x run_of lead
-none_text j h = let z : 0 + j ≡ j = omega arith in rw z at (each_in 32 126 (stamp G.Undefined) 0 15 test j h)
+none_text j h = let z : 0 + j ≡ j = omega arith in rw z at (each_in 32 126 (stamp None) 0 15 test j h)
   where
-    test : is_text (stamp G.Undefined) 0 15 ≡ true
+    test : is_text (stamp None) 0 15 ≡ true
     test = refl
 
-pub stamp_long : (g : General) → length (stamp g) ≡ 15
+pub stamp_long : (g : Option Moment) → length (stamp g) ≡ 15
 stamp_long g = general_length 14 (replicate 15 0) g
 
-stamp_text : (g : General) → Print (stamp g)
-stamp_text G.Undefined j h = none_text j h
-stamp_text (G.At t) j h = go (dec_lt j 14)
+stamp_text : (g : Option Moment) → Print (stamp g)
+stamp_text None j h = none_text j h
+stamp_text (Some t) j h = go (dec_lt j 14)
   where
     go : Dec (j < 14) → Within 32 126 (get_or (put_moment 14 (replicate 15 0) t) j 0)
     go (yes l) = let z : 0 + j ≡ j = omega arith in let d = rw z at (moment_digits 14 (replicate 15 0) t (omega arith) (omega arith) j l) in (omega arith, omega arith)
     go (no l) =
-        let e : j ≡ 14 = omega (arith, l, stamp_long (G.At t)) in
+        let e : j ≡ 14 = omega (arith, l, stamp_long (Some t)) in
         rw (e, moment_zed 14 (replicate 15 0) t (omega arith) (omega arith)) (omega arith, omega arith)
 
-module _ (n : List ℕ) (f l : General) (long : length n ≡ 67) (p : Print n) where
+module _ (n : List ℕ) (f l : Option Moment) (long : length n ≡ 67) (p : Print n) where
   renamed_long : length (renamed n f l) ≡ 67
   renamed_long =
       simp (length-append, length-take, length-drop, stamp_long)
@@ -248,24 +248,24 @@ pub name_text : (m : List ℕ) → valued m 0 ≡ true → is_text m 52 67 ≡ t
 unfolding valued is_value kind_of kinds width_of widths fields line_start
 name_text m e = e
 
-line_10 : (g : General) → fits_general false g ≡ true → fits_line 10 (time g) ≡ true
+line_10 : (g : Option Moment) → fits_general false g ≡ true → fits_line 10 (time g) ≡ true
 unfolding kind_of kinds fields time_fits
 line_10 g e = e
 
 -- a time of line 10 or 11 is spelled as its 15 bytes
-pub stamp_10 : (m : List ℕ) (g : General) → spelling m 10 (time g) ≡ stamp g
+pub stamp_10 : (m : List ℕ) (g : Option Moment) → spelling m 10 (time g) ≡ stamp g
 unfolding kind_of kinds width_of widths fields is_long
 stamp_10 m g = refl
 
-pub stamp_11 : (m : List ℕ) (g : General) → spelling m 11 (time g) ≡ stamp g
+pub stamp_11 : (m : List ℕ) (g : Option Moment) → spelling m 11 (time g) ≡ stamp g
 unfolding kind_of kinds width_of widths fields is_long
 stamp_11 m g = refl
 
-line_11 : (g : General) → fits_general false g ≡ true → fits_line 11 (time g) ≡ true
+line_11 : (g : Option Moment) → fits_general false g ≡ true → fits_line 11 (time g) ≡ true
 unfolding kind_of kinds fields time_fits
 line_11 g e = e
 
-pub unset_lines : AllFit (anew 64 (number N.Undefined) ∷ anew 65 (number N.Undefined) ∷ anew 66 (number N.Undefined) ∷ anew 67 (number N.Undefined) ∷ anew 68 (number N.Undefined) ∷ anew 69 (number N.Undefined) ∷ anew 70 (number N.Undefined) ∷ anew 71 (text (84 ∷ [])) ∷ [])
+pub unset_lines : AllFit (anew 64 (number None) ∷ anew 65 (number None) ∷ anew 66 (number None) ∷ anew 67 (number None) ∷ anew 68 (number None) ∷ anew 69 (number None) ∷ anew 70 (number None) ∷ anew 71 (text (84 ∷ [])) ∷ [])
 unfolding kind_of kinds width_of widths fields number_fits text_fits run_of lead
 unset_lines = (refl, (refl, (refl, (refl, (refl, (refl, (refl, (refl, tt))))))))
 
@@ -291,8 +291,8 @@ module _ {m : List ℕ} {rs : List (List ℕ)} (w : Window) (b : Built m rs) (by
 
   cut_lines_fit : AllFit (other_lines m w rs)
   cut_lines_fit =
-      let f = second_fits (first_start (only (is_chosen w) rs)) (first_valid T.Undefined (only (is_chosen w) rs) tt start_valid) in
-      let l = second_fits (last_stop (only (is_chosen w) rs)) (last_valid T.Undefined (only (is_chosen w) rs) tt stop_valid) in (
+      let f = second_fits (first_start (only (is_chosen w) rs)) (first_valid None (only (is_chosen w) rs) tt start_valid) in
+      let l = second_fits (last_stop (only (is_chosen w) rs)) (last_valid None (only (is_chosen w) rs) tt stop_valid) in (
         name_line (renamed (value_of m 0) (sensing_start m w rs) (sensing_end m w rs)) (renamed_fits (value_of m 0) (sensing_start m w rs) (sensing_end m w rs) (name_long b) (name_prints b)),
         (line_10 (sensing_start m w rs) f, (line_11 (sensing_end m w rs) l, unset_lines)),
       )

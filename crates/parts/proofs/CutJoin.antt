@@ -15,7 +15,7 @@ use Rattle.meter.specs.General.{number_of}
 use Rattle.meter.specs.Time.{time_at}
 use Rattle.text.specs.Field.{is_x}
 use Rattle.text.specs.Writing.{put_number}
-use Rattle.text.specs.declared.Number.TheVariants as N
+use Rattle.std.specs.declared.option.Option.TheVariants.{Some, None}
 use Rattle.mphr.specs.Layout.{width_of, kind_of, line_start}
 use Rattle.mphr.proofs.WritingLaws.{number_fits_lem}
 use Rattle.demands.specs.Product.{class, Meets}
@@ -182,15 +182,15 @@ module _ {a b c d x y z : List ℕ} {w : Window} (t : Meets a) (u : Meets b) (h 
           subst Same s (whole_lines (55 + m) (count m) (omega arith) (one.each m (omega (arith, e, o)) (omega arith)) (two.each m (omega (arith, e, o)) (omega arith)))
 
   -- counts and durations are `x` in both
-  x_fits : (n : ℕ) → 64 ≤ n → n ≤ 70 → fits_line n (number N.Undefined) ≡ true
+  x_fits : (n : ℕ) → 64 ≤ n → n ≤ 70 → fits_line n (number None) ≡ true
   x_fits =
       let r = unset_lines in
-      in_seven (λ (n : ℕ). fits_line n (number N.Undefined) ≡ true) r.0 r.1.0 r.1.1.0 r.1.1.1.0 r.1.1.1.1.0 r.1.1.1.1.1.0 r.1.1.1.1.1.1.0
+      in_seven (λ (n : ℕ). fits_line n (number None) ≡ true) r.0 r.1.0 r.1.1.0 r.1.1.1.0 r.1.1.1.1.0 r.1.1.1.1.1.0 r.1.1.1.1.1.1.0
 
-  x_lines : (n : ℕ) → 64 ≤ n → n ≤ 70 → value_of k.header n ≡ put_number (width_of n) (replicate (width_of n) 0) N.Undefined → value_of (main_of x) n ≡ put_number (width_of n) (replicate (width_of n) 0) N.Undefined → value_of i.header n ≡ put_number (width_of n) (replicate (width_of n) 0) (added (main_of x) (main_of y) n) → Same n
+  x_lines : (n : ℕ) → 64 ≤ n → n ≤ 70 → value_of k.header n ≡ put_number (width_of n) (replicate (width_of n) 0) None → value_of (main_of x) n ≡ put_number (width_of n) (replicate (width_of n) 0) None → value_of i.header n ≡ put_number (width_of n) (replicate (width_of n) 0) (added (main_of x) (main_of y) n) → Same n
   x_lines n lo hi e o s =
-      let v = x_line (main_of x) n (number_fits_lem (kind_of n) (width_of n) N.Undefined (x_fits n lo hi)) o in
-      e ∙ sym (s ∙ ap (λ (r : Bool). put_number (width_of n) (replicate (width_of n) 0) (cond (r || is_x (main_of y) (line_start n + 32) (width_of n)) N.Undefined (N.Whole (pos (number_of (main_of x) (line_start n + 32) (width_of n) + number_of (main_of y) (line_start n + 32) (width_of n)))))) v)
+      let v = x_line (main_of x) n (number_fits_lem (kind_of n) (width_of n) None (x_fits n lo hi)) o in
+      e ∙ sym (s ∙ ap (λ (r : Bool). put_number (width_of n) (replicate (width_of n) 0) (cond (r || is_x (main_of y) (line_start n + 32) (width_of n)) None (Some (pos (number_of (main_of x) (line_start n + 32) (width_of n) + number_of (main_of y) (line_start n + 32) (width_of n)))))) v)
 
   of_x : (n : ℕ) → value_of (main_of x) n ≡ value_of p.header n
   of_x n = ap (λ (m : List ℕ). value_of m n) (town_main p f)

@@ -12,10 +12,12 @@ use borrow.Author.Tests.{le-ltb, lt-ltb, ltb-false, leb-true}
 use lib.Dec.{ltb}
 use Rattle.calendar.specs.Said.{Said, answer, refusal}
 use Rattle.meter.specs.Time.{last_milli, is_milli, is_time, time_at, order_of, compared}
+use Rattle.std.specs.declared.option.Option.TheVariants.{Some, None}
+use Rattle.std.specs.declared.cmp.Ordering.TheVariants.{Less, Equal, Greater}
+use Rattle.std.specs.declared.option.Option.{Option}
+use Rattle.std.specs.declared.cmp.Ordering.{Ordering}
 use Rattle.meter.specs.declared.time.Time.{Time}
-use Rattle.meter.specs.declared.time.Time.TheVariants as T
-use Rattle.meter.specs.declared.time.Order.{Order}
-use Rattle.meter.specs.declared.time.Order.TheVariants as O
+use Rattle.meter.specs.Instant as T
 use Rattle.record.specs.Times.{is_after, timed_at}
 use Rattle.record.proofs.FieldLaws.{both}
 use Rattle.moment.specs.Moment.{on_line, overlap_between}
@@ -38,31 +40,31 @@ abbrev pub allowed : Bool → ℕ
 allowed true = 0
 allowed false = 1
 
-after_of : (x y : ℕ) → is_after (answer (cond (ltb x y) O.Before (cond (ltb y x) O.After O.Same))) ≡ ltb 0 (x - y)
+after_of : (x y : ℕ) → is_after (answer (cond (ltb x y) Less (cond (ltb y x) Greater Equal))) ≡ ltb 0 (x - y)
 after_of x y = go (dec_lt y x)
   where
-    either : (b : Bool) → is_after (answer (cond b O.Before O.Same)) ≡ false
+    either : (b : Bool) → is_after (answer (cond b Less Equal)) ≡ false
     either true = refl
     either false = refl
 
-    go : Dec (y < x) → is_after (answer (cond (ltb x y) O.Before (cond (ltb y x) O.After O.Same))) ≡ ltb 0 (x - y)
+    go : Dec (y < x) → is_after (answer (cond (ltb x y) Less (cond (ltb y x) Greater Equal))) ≡ ltb 0 (x - y)
     go (yes h) = rw (le-ltb x y (omega arith), lt-ltb y x h, lt-ltb 0 (x - y) (omega arith)) refl
     go (no h) = rw (le-ltb y x (omega (arith, h)), le-ltb 0 (x - y) (omega (arith, h))) (either (ltb x y))
 
 after_line : (d m e n : ℕ) → is_milli d m ≡ true → is_milli e n ≡ true → is_after (compared (T.At d m) (T.At e n)) ≡ ltb 0 (overlap_between (T.At d m) (T.At e n))
 after_line d m e n p q =
     ap (λ (b : Bool). is_after (compares b)) (ap (λ (b : Bool). b && is_milli e n) p ∙ q)
-    ∙ ap (λ (o : Order). is_after (answer o)) (line_order d m e n (leb-true m (last_milli d) p) (leb-true n (last_milli e) q))
+    ∙ ap (λ (o : Ordering). is_after (answer o)) (line_order d m e n (leb-true m (last_milli d) p) (leb-true n (last_milli e) q))
     ∙ after_of (on_line d m) (on_line e n)
   where
-    compares : Bool → Said Order
+    compares : Bool → Said Ordering
     compares b = cond b (answer (order_of d m e n)) (refusal 21 0)
 
-pub late_line : (i : Bool) (t u : Time) → is_time t ≡ true → is_time u ≡ true → is_late i t u ≡ ltb (allowed i) (overlap_between t u)
+pub late_line : (i : Bool) (t u : Option Time) → is_time t ≡ true → is_time u ≡ true → is_late i t u ≡ ltb (allowed i) (overlap_between t u)
 late_line false t u p q = refl
-late_line true T.Undefined u p q = refl
-late_line true (T.At d m) T.Undefined p q = refl
-late_line true (T.At d m) (T.At e n) p q = after_line d m e n p q
+late_line true None u p q = refl
+late_line true (Some t) None p q = refl
+late_line true (Some t) (Some u) p q = after_line t.day t.milli u.day u.milli p q
 
 -- ---- the times of records are right
 own_times : (r : List ℕ) → Own r → (is_time (time_at r 8) ≡ true) × (is_time (time_at r 14) ≡ true)
@@ -71,19 +73,19 @@ own_times r o =
     both (is_time (time_at r 8)) (is_time (time_at r 14))
     (both (is_time (time_at r 8) && is_time (time_at r 14)) (not (is_after (compared (time_at r 8) (time_at r 14)))) o.times).0
 
-last_time : (t u : Time) → is_time t ≡ true → is_time u ≡ true → is_time (last_of t u) ≡ true
-last_time t T.Undefined p q = p
-last_time t (T.At d m) p q = q
+last_time : (t u : Option Time) → is_time t ≡ true → is_time u ≡ true → is_time (last_of t u) ≡ true
+last_time t None p q = p
+last_time t (Some u) p q = q
 
-first_time : (t u : Time) → is_time t ≡ true → is_time u ≡ true → is_time (first_of t u) ≡ true
-first_time T.Undefined u p q = q
-first_time (T.At d m) u p q = p
+first_time : (t u : Option Time) → is_time t ≡ true → is_time u ≡ true → is_time (first_of t u) ≡ true
+first_time None u p q = q
+first_time (Some t) u p q = p
 
-stop_time : (t : Time) (rs : List (List ℕ)) → is_time t ≡ true → ((r : List ℕ) → In r rs → Own r) → is_time (last_stop_from t rs) ≡ true
+stop_time : (t : Option Time) (rs : List (List ℕ)) → is_time t ≡ true → ((r : List ℕ) → In r rs → Own r) → is_time (last_stop_from t rs) ≡ true
 stop_time t [] p f = p
 stop_time t (r ∷ rs) p f = stop_time (last_of t (time_at r 14)) rs (last_time t (time_at r 14) p (own_times r (f r (top refl))).1) (λ x n. f x (pop n))
 
-start_time : (t : Time) (rs : List (List ℕ)) → is_time t ≡ true → ((r : List ℕ) → In r rs → Own r) → is_time (first_start_from t rs) ≡ true
+start_time : (t : Option Time) (rs : List (List ℕ)) → is_time t ≡ true → ((r : List ℕ) → In r rs → Own r) → is_time (first_start_from t rs) ≡ true
 start_time t [] p f = p
 start_time t (r ∷ rs) p f = start_time (first_of t (time_at r 8)) rs (first_time t (time_at r 8) p (own_times r (f r (top refl))).0) (λ x n. f x (pop n))
 
@@ -94,7 +96,7 @@ module _ {m n : List ℕ} {rs ss : List (List ℕ)} (b : Built m rs) (d : Built 
 
   -- in time is: the last defined stop lies after the first defined start by no more milliseconds than are allowed
   pub in_time_line : (i : Bool) → is_late i (last_defined_stop rs) (first_defined_start ss) ≡ ltb (allowed i) (overlap_between (last_defined_stop rs) (first_defined_start ss))
-  in_time_line i = late_line i (last_defined_stop rs) (first_defined_start ss) (stop_time T.Undefined (only is_mdr rs) refl (mdr_own b)) (start_time T.Undefined (only is_mdr ss) refl (mdr_own d))
+  in_time_line i = late_line i (last_defined_stop rs) (first_defined_start ss) (stop_time None (only is_mdr rs) refl (mdr_own b)) (start_time None (only is_mdr ss) refl (mdr_own d))
 
   pub in_time_granules : InTime identical rs ss → InTime granules rs ss
   in_time_granules h =

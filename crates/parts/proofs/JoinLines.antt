@@ -14,8 +14,8 @@ use Rattle.meter.specs.General.{number_of}
 use Rattle.meter.proofs.ReadsBack.{reads_answer}
 use Rattle.text.specs.Field.{is_x, integer_of, is_numeric, number_at}
 use Rattle.text.specs.Writing.{put_number, fits_number}
-use Rattle.text.specs.declared.Number.{Number}
-use Rattle.text.specs.declared.Number.TheVariants as N
+use Rattle.std.specs.declared.option.Option.TheVariants.{Some, None}
+use Rattle.std.specs.declared.option.Option.{Option}
 use Rattle.text.proofs.Alike.{x_alike, number_alike}
 use Rattle.text.proofs.Back.{number_back}
 use Rattle.mphr.specs.Layout.{width_of, kind_of, line_start}
@@ -57,25 +57,25 @@ module _ (a b c : List ℕ) (la : length a ≡ 67) (lb : length b ≡ 67) (lc : 
 
 -- ---- sums
 -- the number that is written reads back
-read_back : (w : ℕ) (z : Number) → fits_number true w z ≡ true → number_at (put_number w (replicate w 0) z) 0 w ≡ z
+read_back : (w : ℕ) (z : Option ℤ) → fits_number true w z ≡ true → number_at (put_number w (replicate w 0) z) 0 w ≡ z
 read_back w z f =
     let b = put_number w (replicate w 0) z in
     (reads_answer b 0 w (is_numeric true b 0 w) (number_at b 0 w) z (number_back true w (replicate w 0) z f (omega (arith, length-replicate {A = ℕ} w 0)))).2
 
-x_of : (b : Bool) (z : ℤ) → cond b N.Undefined (N.Whole z) ≡ N.Undefined → b ≡ true
+x_of : (b : Bool) (z : ℤ) → cond b None (Some z) ≡ None → b ≡ true
 x_of true z e = refl
 x_of false z e = let q : ◌≡◌ {A = ℕ} 0 1 = cc in absurd (omega arith)
 
-not_x_of : (b : Bool) (z y : ℤ) → cond b N.Undefined (N.Whole z) ≡ N.Whole y → b ≡ false
+not_x_of : (b : Bool) (z y : ℤ) → cond b None (Some z) ≡ Some y → b ≡ false
 not_x_of true z y e = let q : ◌≡◌ {A = ℕ} 0 1 = cc in absurd (omega arith)
 not_x_of false z y e = refl
 
 -- a line with an undefined number is of `x`
-pub x_line : (m : List ℕ) (k : ℕ) → fits_number true (width_of k) N.Undefined ≡ true → value_of m k ≡ put_number (width_of k) (replicate (width_of k) 0) N.Undefined → is_x m (line_start k + 32) (width_of k) ≡ true
+pub x_line : (m : List ℕ) (k : ℕ) → fits_number true (width_of k) None ≡ true → value_of m k ≡ put_number (width_of k) (replicate (width_of k) 0) None → is_x m (line_start k + 32) (width_of k) ≡ true
 x_line m k f e =
     let w = width_of k in
-    let y = put_number w (replicate w 0) N.Undefined in
-    x_alike (value_like m k) ∙ ap (λ (v : List ℕ). is_x v 0 w) e ∙ x_of (is_x y 0 w) (integer_of y 0 w) (read_back w N.Undefined f)
+    let y = put_number w (replicate w 0) None in
+    x_alike (value_like m k) ∙ ap (λ (v : List ℕ). is_x v 0 w) e ∙ x_of (is_x y 0 w) (integer_of y 0 w) (read_back w None f)
 
 -- the sum that is written reads back
 sum_of : (x m n : List ℕ) (k : ℕ) → fits_number true (width_of k) (added m n k) ≡ true → value_of x k ≡ put_number (width_of k) (replicate (width_of k) 0) (added m n k) → Sum x m n k
@@ -90,8 +90,8 @@ sum_of x m n k f e = go (is_x m p w || is_x n p w) refl
     s : ℕ
     s = number_of m p w + number_of n p w
 
-    z : Bool → Number
-    z b = cond b N.Undefined (N.Whole (pos s))
+    z : Bool → Option ℤ
+    z b = cond b None (Some (pos s))
 
     told : (b : Bool) → is_x m p w || is_x n p w ≡ b → (fits_number true w (z b) ≡ true) × (value_of x k ≡ put_number w (replicate w 0) (z b))
     told b u = (ap (λ (c : Bool). fits_number true w (z c)) (sym u) ∙ f, e ∙ ap (λ (c : Bool). put_number w (replicate w 0) (z c)) u)
@@ -102,16 +102,16 @@ sum_of x m n k f e = go (is_x m p w || is_x n p w) refl
     go : (b : Bool) → is_x m p w || is_x n p w ≡ b → Sum x m n k
     go true u =
         let t = told true u in
-        let y = put_number w (replicate w 0) N.Undefined in
+        let y = put_number w (replicate w 0) None in
         record {
-          undefined = x-here ∙ ap (λ (v : List ℕ). is_x v 0 w) t.1 ∙ x_of (is_x y 0 w) (integer_of y 0 w) (read_back w N.Undefined t.0) ∙ sym u;
+          undefined = x-here ∙ ap (λ (v : List ℕ). is_x v 0 w) t.1 ∙ x_of (is_x y 0 w) (integer_of y 0 w) (read_back w None t.0) ∙ sym u;
           whole = λ c. absurd (true≢false (sym u ∙ c));
         }
     go false u =
         let t = told false u in
-        let y = put_number w (replicate w 0) (N.Whole (pos s)) in
+        let y = put_number w (replicate w 0) (Some (pos s)) in
         record {
-          undefined = x-here ∙ ap (λ (v : List ℕ). is_x v 0 w) t.1 ∙ not_x_of (is_x y 0 w) (integer_of y 0 w) (pos s) (read_back w (N.Whole (pos s)) t.0) ∙ sym u;
+          undefined = x-here ∙ ap (λ (v : List ℕ). is_x v 0 w) t.1 ∙ not_x_of (is_x y 0 w) (integer_of y 0 w) (pos s) (read_back w (Some (pos s)) t.0) ∙ sym u;
           whole = λ c. number_alike (value_like x k) w (omega arith) ∙ ap (λ (v : List ℕ). number_of v 0 w) t.1 ∙ number_is w s t.0;
         }
 

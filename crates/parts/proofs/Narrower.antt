@@ -9,7 +9,8 @@ use borrow.Author.Tests.{ne_eqb}
 use lib.ListN.{length, take, drop, length-append, length-drop}
 use lib.Seq.{take_at, drop_at, length-take-le}
 use Rattle.meter.specs.Time.{time_at}
-use Rattle.meter.specs.declared.general.General.{General}
+use Rattle.std.specs.declared.option.Option.{Option}
+use Rattle.meter.specs.declared.general.Moment.{Moment}
 use Rattle.demands.specs.Product.{class, Meets}
 use Rattle.demands.proofs.Accepted.{one_list}
 use Rattle.parts.specs.Parts.{bytes_of, Built, main_of, records_at}
@@ -82,7 +83,7 @@ module _ {w v : Window} (i : Inside w v) (m : List ℕ) (rs : List (List ℕ)) w
       ∙ only_same (λ (r : List ℕ). is_kept v r && is_chosen w r) (is_chosen w) rs (λ r. absorbs (is_kept v r) (is_chosen w r) (chosen_kept i r))
 
 -- ---- the name
-module _ (n : List ℕ) (f l : General) (long : length n ≡ 67) where
+module _ (n : List ℕ) (f l : Option Moment) (long : length n ≡ 67) where
   a : List ℕ
   a = take 16 n
 
@@ -120,7 +121,7 @@ module _ (n : List ℕ) (f l : General) (long : length n ≡ 67) where
       group : renamed n f l ≡ (((take 16 n ++ stamp f) ++ take 1 (drop 31 n)) ++ stamp l) ++ drop 47 n
       group = simp append_assoc
 
-  pub renamed_twice : (g h : General) → renamed (renamed n f l) g h ≡ renamed n g h
+  pub renamed_twice : (g h : Option Moment) → renamed (renamed n f l) g h ≡ renamed n g h
   renamed_twice g h = rw (name_front, name_mark, name_back)
 
 module _ {m m' : List ℕ} {w v : Window} (rs : List (List ℕ)) (i : Inside w v) (x : Rewritten m m' (cut_values m v rs)) where
@@ -142,7 +143,7 @@ module _ {m m' m'' : List ℕ} {rs : List (List ℕ)} {w v : Window} (b : Built 
   same_name : renamed (value_of m' 0) (sensing_start m' w (cut_parts m v rs)) (sensing_end m' w (cut_parts m v rs)) ≡ renamed (value_of m 0) (sensing_start m w rs) (sensing_end m w rs)
   same_name =
       let n : value_of m' 0 ≡ renamed (value_of m 0) (sensing_start m v rs) (sensing_end m v rs) = x.values 0 (omega arith) in
-      ap (λ (s : General). renamed (value_of m' 0) s (sensing_end m' w (cut_parts m v rs))) same_start
+      ap (λ (s : Option Moment). renamed (value_of m' 0) s (sensing_end m' w (cut_parts m v rs))) same_start
       ∙ ap (renamed (value_of m' 0) (sensing_start m w rs)) same_end
       ∙ ap (λ (z : List ℕ). renamed z (sensing_start m w rs) (sensing_end m w rs)) n
       ∙ renamed_twice (value_of m 0) (sensing_start m v rs) (sensing_end m v rs) (name_long b) (sensing_start m w rs) (sensing_end m w rs)
@@ -153,8 +154,8 @@ module _ {m m' m'' : List ℕ} {rs : List (List ℕ)} {w v : Window} (b : Built 
     same_name,
     (
       refl,
-      ap (λ (g : General). spelling m' 10 (time g)) same_start,
-      (refl, ap (λ (g : General). spelling m' 11 (time g)) same_end, (refl, refl, (refl, refl, (refl, refl, (refl, refl, (refl, refl, (refl, refl, (refl, refl, (refl, refl, tt))))))))),
+      ap (λ (g : Option Moment). spelling m' 10 (time g)) same_start,
+      (refl, ap (λ (g : Option Moment). spelling m' 11 (time g)) same_end, (refl, refl, (refl, refl, (refl, refl, (refl, refl, (refl, refl, (refl, refl, (refl, refl, (refl, refl, tt))))))))),
     ),
   )
 

@@ -12,7 +12,7 @@ use lib.Seq.{drop-drop}
 use Rattle.meter.specs.General.{number_of}
 use Rattle.text.specs.Field.{is_x}
 use Rattle.text.specs.Writing.{put_number}
-use Rattle.text.specs.declared.Number.TheVariants as N
+use Rattle.std.specs.declared.option.Option.TheVariants.{Some, None}
 use Rattle.mphr.specs.Layout.{width_of, line_start}
 use Rattle.parts.specs.Parts.{bytes_of, Built}
 use Rattle.parts.specs.Only.{only, is_sphr, is_global, is_variable, is_mdr}
@@ -64,10 +64,10 @@ ended_self : (x : List ℕ) → ended_as x x ≡ x
 ended_self x = ap (λ (l : List ℕ). take 32 x ++ (take 15 (drop 32 x) ++ l)) (sym (drop-drop 15 32 x)) ∙ ap (λ (l : List ℕ). take 32 x ++ l) (take-append-drop 15 (drop 32 x)) ∙ take-append-drop 32 x
 
 -- ---- sums, `x` absorbing
-same_sum : (d e : Bool) (x y : ℕ) → (d ≡ false → e ≡ false → x ≡ y) → cond (d || e) N.Undefined (N.Whole (pos x)) ≡ cond (d || e) N.Undefined (N.Whole (pos y))
+same_sum : (d e : Bool) (x y : ℕ) → (d ≡ false → e ≡ false → x ≡ y) → cond (d || e) None (Some (pos x)) ≡ cond (d || e) None (Some (pos y))
 same_sum true e x y f = refl
 same_sum false true x y f = refl
-same_sum false false x y f = ap (λ (i : ℕ). N.Whole (pos i)) (f refl refl)
+same_sum false false x y f = ap (λ (i : ℕ). Some (pos i)) (f refl refl)
 
 neither : (d e : Bool) → d || e ≡ false → (d ≡ false) × (e ≡ false)
 neither true e h = absurd (let z : ◌≡◌ {A = ℕ} 0 1 = cc in omega arith)
@@ -140,10 +140,10 @@ module _ {g h : Granule} {gs hs : List Granule} {m n c : List ℕ} {rs ss : List
       let s = number_of m (line_start k + 32) (width_of k) + number_of n (line_start k + 32) (width_of k) in
       let x = undefined_in k (g ∷ gs) in
       let y = undefined_in k (h ∷ hs) in
-      ap (λ (b : Bool). cond (b || is_x n (line_start k + 32) (width_of k)) N.Undefined (N.Whole (pos s))) (p.unset k lo hi)
-      ∙ ap (λ (b : Bool). cond (x || b) N.Undefined (N.Whole (pos s))) (q.unset k lo hi)
+      ap (λ (b : Bool). cond (b || is_x n (line_start k + 32) (width_of k)) None (Some (pos s))) (p.unset k lo hi)
+      ∙ ap (λ (b : Bool). cond (x || b) None (Some (pos s))) (q.unset k lo hi)
       ∙ same_sum x y s (sum_in k (g ∷ rest)) (λ u v. omega (arith, p.sum k lo hi u, q.sum k lo hi v, sum_append k (g ∷ gs) (h ∷ hs)))
-      ∙ ap (λ (b : Bool). cond b N.Undefined (N.Whole (pos (sum_in k (g ∷ rest))))) (sym (undefined_append k (g ∷ gs) (h ∷ hs)))
+      ∙ ap (λ (b : Bool). cond b None (Some (pos (sum_in k (g ∷ rest))))) (sym (undefined_append k (g ∷ gs) (h ∷ hs)))
 
   up : (k : ℕ) → 64 ≤ k → k ≤ 70 → spelling m k (number (added m n k)) ≡ spelling g.main k (number (added_up (g ∷ rest) k))
   up k lo hi = ap (put_number (width_of k) (replicate (width_of k) 0)) (added_all k lo hi)

@@ -9,10 +9,12 @@ use mathlib.Core.Logic.{◌⊎◌, inl, inr, ⊎_elim}
 use borrow.Author.Tests.{lt-ltb, le-ltb}
 use Rattle.calendar.specs.Said.{Said, answer, refusal}
 use Rattle.meter.specs.Time.{is_milli, order_of, compared}
+use Rattle.std.specs.declared.option.Option.TheVariants.{Some, None}
+use Rattle.std.specs.declared.cmp.Ordering.TheVariants.{Less, Equal, Greater}
+use Rattle.std.specs.declared.option.Option.{Option}
+use Rattle.std.specs.declared.cmp.Ordering.{Ordering}
 use Rattle.meter.specs.declared.time.Time.{Time}
-use Rattle.meter.specs.declared.time.Time.TheVariants as T
-use Rattle.meter.specs.declared.time.Order.{Order}
-use Rattle.meter.specs.declared.time.Order.TheVariants as O
+use Rattle.meter.specs.Instant as T
 use Rattle.record.specs.Times.{is_after}
 use Rattle.record.proofs.FieldLaws.{both}
 use Rattle.parts.specs.Cut.{is_up_to, Window, within, Inside}
@@ -24,23 +26,23 @@ pub record NotAfter (d m e n : ℕ) : Type 0 where
   pub days : d ≤ e
   pub millis : d ≡ e → m ≤ n
 
-order_low : (d m e n : ℕ) → d < e → order_of d m e n ≡ O.Before
+order_low : (d m e n : ℕ) → d < e → order_of d m e n ≡ Less
 order_low d m e n h = rw (lt-ltb d e h)
 
-order_high : (d m e n : ℕ) → e < d → order_of d m e n ≡ O.After
+order_high : (d m e n : ℕ) → e < d → order_of d m e n ≡ Greater
 order_high d m e n h = rw (le-ltb d e (omega arith), lt-ltb e d h)
 
-order_before : (d m n : ℕ) → m < n → order_of d m d n ≡ O.Before
+order_before : (d m n : ℕ) → m < n → order_of d m d n ≡ Less
 order_before d m n h = rw (le-ltb d d (omega arith), lt-ltb m n h)
 
-order_after : (d m n : ℕ) → n < m → order_of d m d n ≡ O.After
+order_after : (d m n : ℕ) → n < m → order_of d m d n ≡ Greater
 order_after d m n h = rw (le-ltb d d (omega arith), le-ltb m n (omega arith), lt-ltb n m h)
 
-order_same : (d m n : ℕ) → m ≡ n → order_of d m d n ≡ O.Same
+order_same : (d m n : ℕ) → m ≡ n → order_of d m d n ≡ Equal
 order_same d m n e = rw (le-ltb d d (omega arith), e, le-ltb n n (omega arith))
 
-never : (o : Order) → o ≡ O.After → is_up_to (answer o) ≡ true → ⊥
-never o e u = true≢false (sym u ∙ ap (λ (x : Order). is_up_to (answer x)) e)
+never : (o : Ordering) → o ≡ Greater → is_up_to (answer o) ≡ true → ⊥
+never o e u = true≢false (sym u ∙ ap (λ (x : Ordering). is_up_to (answer x)) e)
 
 both_right : (d m e n : ℕ) → is_up_to (compared (T.At d m) (T.At e n)) ≡ true → (is_milli d m ≡ true) × (is_milli e n ≡ true) × (is_up_to (answer (order_of d m e n)) ≡ true)
 both_right d m e n u = go (is_milli d m) (is_milli e n) u
@@ -67,27 +69,27 @@ pub up_to : (d m e n : ℕ) → NotAfter d m e n → is_up_to (compared (T.At d 
 up_to d m e n k = rw (k.first, k.second) (go (dec_lt d e) (dec_lt m n))
   where
     go : Dec (d < e) → Dec (m < n) → is_up_to (answer (order_of d m e n)) ≡ true
-    go (yes h) _ = ap (λ (o : Order). is_up_to (answer o)) (order_low d m e n h)
+    go (yes h) _ = ap (λ (o : Ordering). is_up_to (answer o)) (order_low d m e n h)
     go (no h) (yes l) =
         let z : e ≡ d = omega (arith, h, k.days) in
-        ap (λ (x : ℕ). is_up_to (answer (order_of d m x n))) z ∙ ap (λ (o : Order). is_up_to (answer o)) (order_before d m n l)
+        ap (λ (x : ℕ). is_up_to (answer (order_of d m x n))) z ∙ ap (λ (o : Ordering). is_up_to (answer o)) (order_before d m n l)
     go (no h) (no l) =
         let z : e ≡ d = omega (arith, h, k.days) in
         let y : m ≡ n = omega (arith, l, k.millis (sym z)) in
-        ap (λ (x : ℕ). is_up_to (answer (order_of d m x n))) z ∙ ap (λ (o : Order). is_up_to (answer o)) (order_same d m n y)
+        ap (λ (x : ℕ). is_up_to (answer (order_of d m x n))) z ∙ ap (λ (o : Ordering). is_up_to (answer o)) (order_same d m n y)
 
 -- ON AND ON
-pub up_to_on : (s t u : Time) → is_up_to (compared s t) ≡ true → is_up_to (compared t u) ≡ true → is_up_to (compared s u) ≡ true
-up_to_on T.Undefined t u p q = absurd (true≢false (sym p))
-up_to_on (T.At a b) T.Undefined u p q = absurd (true≢false (sym p))
-up_to_on (T.At a b) (T.At c d) T.Undefined p q = absurd (true≢false (sym q))
-up_to_on (T.At a b) (T.At c d) (T.At e f) p q =
-    let x = not_after a b c d p in
-    let y = not_after c d e f q in
-    up_to a b e f
-    record { first = x.first; second = y.second; days = omega (arith, x.days, y.days); millis = λ z. let k : a ≡ c = omega (arith, x.days, y.days) in let l : c ≡ e = omega arith in omega (arith, x.millis k, y.millis l) }
+pub up_to_on : (s t u : Option Time) → is_up_to (compared s t) ≡ true → is_up_to (compared t u) ≡ true → is_up_to (compared s u) ≡ true
+up_to_on None t u p q = absurd (true≢false (sym p))
+up_to_on (Some t) None u p q = absurd (true≢false (sym p))
+up_to_on (Some t) (Some u) None p q = absurd (true≢false (sym q))
+up_to_on (Some t) (Some u) (Some v) p q =
+    let x = not_after t.day t.milli u.day u.milli p in
+    let y = not_after u.day u.milli v.day v.milli q in
+    up_to t.day t.milli v.day v.milli
+    record { first = x.first; second = y.second; days = omega (arith, x.days, y.days); millis = λ z. let k : t.day ≡ u.day = omega (arith, x.days, y.days) in let l : u.day ≡ v.day = omega arith in omega (arith, x.millis k, y.millis l) }
 
-pub within_inside : (w v : Window) (t : Time) → Inside w v → within w t ≡ true → within v t ≡ true
+pub within_inside : (w v : Window) (t : Option Time) → Inside w v → within w t ≡ true → within v t ≡ true
 within_inside w v t i e =
     let b = both (is_up_to (compared w.from t)) (is_up_to (compared t w.to)) e in
     let x = up_to_on v.from w.from t i.from b.0 in
@@ -109,16 +111,16 @@ module _ (d m e n : ℕ) (v : is_milli d m ≡ true) (w : is_milli e n ≡ true)
       go (no h) (no l) (yes k) = inl (up_to d m e n record { first = v; second = w; days = omega (arith, l); millis = λ z. omega arith })
       go (no h) (no l) (no k) = inr (up_to e n d m record { first = w; second = v; days = omega (arith, h); millis = λ z. omega (arith, k) })
 
-after_not : (o : Said Order) → is_up_to o ≡ true → is_after o ≡ false
-after_not (answer O.Before) e = refl
-after_not (answer O.Same) e = refl
-after_not (answer O.After) e = absurd (true≢false (sym e))
+after_not : (o : Said Ordering) → is_up_to o ≡ true → is_after o ≡ false
+after_not (answer Less) e = refl
+after_not (answer Equal) e = refl
+after_not (answer Greater) e = absurd (true≢false (sym e))
 after_not (refusal n p) e = absurd (true≢false (sym e))
 
-not_after_up : (o : Order) → is_after (answer o) ≡ false → is_up_to (answer o) ≡ true
-not_after_up O.Before e = refl
-not_after_up O.Same e = refl
-not_after_up O.After e = absurd (true≢false e)
+not_after_up : (o : Ordering) → is_after (answer o) ≡ false → is_up_to (answer o) ≡ true
+not_after_up Less e = refl
+not_after_up Equal e = refl
+not_after_up Greater e = absurd (true≢false e)
 
 pub up_to_not : (d m e n : ℕ) → is_milli d m ≡ true → is_milli e n ≡ true → is_after (compared (T.At d m) (T.At e n)) ≡ false → is_up_to (compared (T.At d m) (T.At e n)) ≡ true
 up_to_not d m e n v w a = rw (v, w) (not_after_up (order_of d m e n) (rw (v, w) at a))

@@ -9,12 +9,14 @@ use mathlib.Core.List.{List, [], ◌∷◌, Memᴰ as In}
 use borrow.Author.Tests.{ne_eqb}
 use lib.ListN.{length, get_or, length-append}
 use Rattle.meter.specs.Time.{is_time, time_at}
-use Rattle.meter.specs.declared.general.General.{General}
+use Rattle.std.specs.declared.result.Result.TheVariants.{Ok}
+use Rattle.std.specs.declared.option.Option.{Option}
+use Rattle.std.specs.declared.result.Result.{Result}
+use Rattle.calendar.specs.declared.Refusal.{Refusal}
+use Rattle.meter.specs.declared.general.Moment.{Moment}
 use Rattle.demands.specs.Product.{Meets}
 use Rattle.finish.specs.Rows.{rows_of}
 use Rattle.finish.specs.Finish.{put, FinishedIs}
-use Rattle.finish.specs.declared.Finished.{Finished}
-use Rattle.finish.specs.declared.Finished.TheVariants as F
 use Rattle.demands.proofs.Accepted.{meets_accepted}
 use Rattle.parts.specs.Parts.{joined, bytes, Built, main_of, records_at}
 use Rattle.parts.specs.Only.{only, is_of, is_sphr, is_aux, is_mdr}
@@ -69,8 +71,8 @@ town_product {a} {b} {w} byte c h =
     subst Meets (sym c.whole) (built_meets c.header (cut_records a w c.product) (cut_is_built w (meets_built a c.product) (λ r n. parts_byte a byte c.product.list r n) h c.lines))
 
 pub town_accepted :
-    {b : List ℕ} (rows rows' : List (List ℕ)) (t : Meets b) → suc (length t.list) ≤ length rows → (r : Finished) → FinishedIs b rows r rows'
-    → (r ≡ F.Accepted (suc (length t.list))) × (rows' ≡ put 0 (rows_of b (0 ∷ t.list)) rows)
+    {b : List ℕ} (rows rows' : List (List ℕ)) (t : Meets b) → suc (length t.list) ≤ length rows → (r : Result ℕ Refusal) → FinishedIs b rows r rows'
+    → (r ≡ Ok (suc (length t.list))) × (rows' ≡ put 0 (rows_of b (0 ∷ t.list)) rows)
 town_accepted {b} rows rows' t n r f = meets_accepted b rows rows' t n r f
 
 -- HOW MUCH ROOM IT TAKES, at most: the bytes of the product, and 27 for each of its records
@@ -171,7 +173,7 @@ module _ {a b : List ℕ} {w : Window} (c : IsCut a w b) (t : Meets b) where
         latest = stops_latest ms (λ r n. (times_stand r n).1);
         sensing_start = ap (λ (z : List ℕ). value_of z 10) town_main ∙ c.lines.values 10 (omega arith) ∙ stamp_10 (main_of a) (sensing_start (main_of a) w rs) ∙ ap stamp f;
         sensing_end = ap (λ (z : List ℕ). value_of z 11) town_main ∙ c.lines.values 11 (omega arith) ∙ stamp_11 (main_of a) (sensing_end (main_of a) w rs) ∙ ap stamp l;
-        name = ap (λ (z : List ℕ). value_of z 0) town_main ∙ c.lines.values 0 (omega arith) ∙ ap (λ (g : General). renamed (value_of (main_of a) 0) g (sensing_end (main_of a) w rs)) f ∙ ap (renamed (value_of (main_of a) 0) (to_second (first_start ms))) l;
+        name = ap (λ (z : List ℕ). value_of z 0) town_main ∙ c.lines.values 0 (omega arith) ∙ ap (λ (g : Option Moment). renamed (value_of (main_of a) 0) g (sensing_end (main_of a) w rs)) f ∙ ap (renamed (value_of (main_of a) 0) (to_second (first_start ms))) l;
       }
 
 -- "a cut by a narrower window of a cut is the narrower cut of the original"

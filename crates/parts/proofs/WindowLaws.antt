@@ -11,8 +11,10 @@ use mathlib.Core.List.{List, [], ◌∷◌, Memᴰ as In}
 use borrow.Author.Tests.{leb-true, le-leb}
 use lib.ListN.{length}
 use Rattle.meter.specs.Time.{last_milli, is_milli, is_time, time_at, compared}
+use Rattle.std.specs.declared.option.Option.TheVariants.{Some, None}
+use Rattle.std.specs.declared.option.Option.{Option}
 use Rattle.meter.specs.declared.time.Time.{Time}
-use Rattle.meter.specs.declared.time.Time.TheVariants as T
+use Rattle.meter.specs.Instant as T
 use Rattle.demands.specs.Product.{Meets}
 use Rattle.parts.specs.Parts.{records_at}
 use Rattle.parts.specs.Only.{only, is_mdr}
@@ -24,12 +26,12 @@ use Rattle.parts.proofs.CutHeaderLaws.{Valid, own_times, time_valid, parts_byte}
 use Rattle.parts.proofs.TimeOrder.{not_after, up_to, up_to_on}
 
 -- ---- a time is up to one instant, or from the next on
-module _ {u v : Time} (n : Next u v) (d m : ℕ) (ok : is_milli d m ≡ true) where
+module _ {u v : Option Time} (n : Next u v) (d m : ℕ) (ok : is_milli d m ≡ true) where
   -- not both
   apart : is_up_to (compared (T.At d m) u) ≡ true → is_up_to (compared v (T.At d m)) ≡ true → ⊥
   apart = go n
     where
-      go : {u v : Time} → Next u v → is_up_to (compared (T.At d m) u) ≡ true → is_up_to (compared v (T.At d m)) ≡ true → ⊥
+      go : {u v : Option Time} → Next u v → is_up_to (compared (T.At d m) u) ≡ true → is_up_to (compared v (T.At d m)) ≡ true → ⊥
       go (in_day {d = e} {m = k} h) p q =
           let x = not_after d m e k p in
           let y = not_after e (suc k) d m q in
@@ -48,7 +50,7 @@ module _ {u v : Time} (n : Next u v) (d m : ℕ) (ok : is_milli d m ≡ true) wh
           less z (yes h) = h
           less z (no h) = absurd (true≢false (sym (up_to d m e k record { first = ok; second = r; days = omega arith; millis = λ _. omega (arith, h) }) ∙ f))
 
-      go : {u v : Time} → Next u v → is_up_to (compared (T.At d m) u) ≡ false → is_up_to (compared u u) ≡ true → is_up_to (compared v (T.At d m)) ≡ true
+      go : {u v : Option Time} → Next u v → is_up_to (compared (T.At d m) u) ≡ false → is_up_to (compared u u) ≡ true → is_up_to (compared v (T.At d m)) ≡ true
       go (in_day {d = e} {m = k} h) f s =
           let l = low e k f (not_after e k e k s).first in
           up_to e (suc k) d m record { first = le-leb (suc k) (last_milli e) (omega arith); second = ok; days = days l.0 (dec_lt d e); millis = λ z. omega (arith, l.1 (sym z)) }
@@ -66,20 +68,20 @@ module _ {u v : Time} (n : Next u v) (d m : ℕ) (ok : is_milli d m ≡ true) wh
           days l (no q) (no z) = omega (arith, q, z)
 
 -- the next is not before
-next_up : {u v : Time} → Next u v → is_up_to (compared u u) ≡ true → is_up_to (compared u v) ≡ true
+next_up : {u v : Option Time} → Next u v → is_up_to (compared u u) ≡ true → is_up_to (compared u v) ≡ true
 next_up (in_day {d = d} {m = m} h) s = up_to d m d (suc m) record { first = (not_after d m d m s).first; second = le-leb (suc m) (last_milli d) (omega arith); days = omega arith; millis = λ z. omega arith }
 next_up (next_day {d = d} {m = m} h) s = up_to d m (suc d) 0 record { first = (not_after d m d m s).first; second = le-leb 0 (last_milli (suc d)) (omega arith); days = omega arith; millis = λ z. absurd (omega arith) }
 
 -- what is up to something is a time
-self_left : (t u : Time) → is_up_to (compared t u) ≡ true → is_up_to (compared t t) ≡ true
-self_left T.Undefined u e = absurd (true≢false (sym e))
-self_left (T.At d m) T.Undefined e = absurd (true≢false (sym e))
-self_left (T.At d m) (T.At f k) e = up_to d m d m record { first = (not_after d m f k e).first; second = (not_after d m f k e).first; days = omega arith; millis = λ z. omega arith }
+self_left : (t u : Option Time) → is_up_to (compared t u) ≡ true → is_up_to (compared t t) ≡ true
+self_left None u e = absurd (true≢false (sym e))
+self_left (Some t) None e = absurd (true≢false (sym e))
+self_left (Some t) (Some u) e = up_to t.day t.milli t.day t.milli record { first = (not_after t.day t.milli u.day u.milli e).first; second = (not_after t.day t.milli u.day u.milli e).first; days = omega arith; millis = λ z. omega arith }
 
-self_right : (t u : Time) → is_up_to (compared t u) ≡ true → is_up_to (compared u u) ≡ true
-self_right T.Undefined u e = absurd (true≢false (sym e))
-self_right (T.At d m) T.Undefined e = absurd (true≢false (sym e))
-self_right (T.At d m) (T.At f k) e = up_to f k f k record { first = (not_after d m f k e).second; second = (not_after d m f k e).second; days = omega arith; millis = λ z. omega arith }
+self_right : (t u : Option Time) → is_up_to (compared t u) ≡ true → is_up_to (compared u u) ≡ true
+self_right None u e = absurd (true≢false (sym e))
+self_right (Some t) None e = absurd (true≢false (sym e))
+self_right (Some t) (Some u) e = up_to u.day u.milli u.day u.milli record { first = (not_after t.day t.milli u.day u.milli e).second; second = (not_after t.day t.milli u.day u.milli e).second; days = omega arith; millis = λ z. omega arith }
 
 -- four tests: a time in the one window, or in the other, is in both together, once
 once : (a b c d : Bool) → (b ≡ true → c ≡ false) → (b ≡ false → c ≡ true) → (b ≡ true → d ≡ true) → (c ≡ true → a ≡ true) → cond (a && b) 1 0 + cond (c && d) 1 0 ≡ cond (a && d) 1 0
@@ -92,23 +94,23 @@ once true false true false p q r s = refl
 once false false true d p q r s = absurd (true≢false (sym (s refl)))
 once a false false d p q r s = absurd (true≢false (sym (q refl)))
 
-parted_window : {t x : Time} {ws : List Window} → Parted t x ws → is_up_to (compared t x) ≡ true
+parted_window : {t x : Option Time} {ws : List Window} → Parted t x ws → is_up_to (compared t x) ≡ true
 parted_window (last e) = e
 parted_window (more {t = t} {u = u} {v = v} {x = x} e n p) = up_to_on t u x e (up_to_on u v x (next_up n (self_right t u e)) (parted_window p))
 
-two_windows : (t u v x : Time) → is_up_to (compared t u) ≡ true → Next u v → is_up_to (compared v x) ≡ true → (y : Time) → is_time y ≡ true → cond (within (window t u) y) 1 0 + cond (within (window v x) y) 1 0 ≡ cond (within (window t x) y) 1 0
-two_windows t u v x e n f T.Undefined ok = rw (none t, none v)
+two_windows : (t u v x : Option Time) → is_up_to (compared t u) ≡ true → Next u v → is_up_to (compared v x) ≡ true → (y : Option Time) → is_time y ≡ true → cond (within (window t u) y) 1 0 + cond (within (window v x) y) 1 0 ≡ cond (within (window t x) y) 1 0
+two_windows t u v x e n f None ok = rw (none t, none v)
   where
-    none : (z : Time) → is_up_to (compared z T.Undefined) ≡ false
-    none T.Undefined = refl
-    none (T.At d m) = refl
-two_windows t u v x e n f (T.At d m) ok =
-    let y = T.At d m in
+    none : (z : Option Time) → is_up_to (compared z None) ≡ false
+    none None = refl
+    none (Some t) = refl
+two_windows t u v x e n f (Some w) ok =
+    let y = T.At w.day w.milli in
     let s = self_right t u e in
     let uv = next_up n s in
     once (is_up_to (compared t y)) (is_up_to (compared y u)) (is_up_to (compared v y)) (is_up_to (compared y x))
-    (λ p. no (is_up_to (compared v y)) (λ q. apart n d m ok p q))
-    (λ p. after n d m ok p s)
+    (λ p. no (is_up_to (compared v y)) (λ q. apart n w.day w.milli ok p q))
+    (λ p. after n w.day w.milli ok p s)
     (λ p. up_to_on y u x p (up_to_on u v x uv f))
     (λ p. up_to_on t v y (up_to_on t u v e uv) p)
   where
@@ -118,7 +120,7 @@ two_windows t u v x e n f (T.At d m) ok =
 
 -- ---- THE LAWS
 -- a time lies in one of the windows, and in no second, just where it lies in the whole
-pub held_once : {t x : Time} {ws : List Window} → Parted t x ws → (y : Time) → is_time y ≡ true → holding ws y ≡ cond (within (window t x) y) 1 0
+pub held_once : {t x : Option Time} {ws : List Window} → Parted t x ws → (y : Option Time) → is_time y ≡ true → holding ws y ≡ cond (within (window t x) y) 1 0
 held_once (last {t = t} {x = x} e) y ok = omega arith
 held_once (more {t = t} {u = u} {v = v} {x = x} e n p) y ok = omega (arith, held_once p y ok, two_windows t u v x e n (parted_window p) y ok)
 
@@ -138,7 +140,7 @@ module _ (r : List ℕ) where
   by_none (w ∷ ws) e = let h : cond (is_chosen w r) 1 0 ≡ as_one false = rw e in omega (arith, h, by_none ws e)
 
 -- and so is an MDR chosen by one of them, and by no second, just where the whole chooses it
-pub chosen_once : {t x : Time} {ws : List Window} → Parted t x ws → (r : List ℕ) → is_time (time_at r 8) ≡ true → choosing ws r ≡ cond (is_chosen (window t x) r) 1 0
+pub chosen_once : {t x : Option Time} {ws : List Window} → Parted t x ws → (r : List ℕ) → is_time (time_at r 8) ≡ true → choosing ws r ≡ cond (is_chosen (window t x) r) 1 0
 unfolding is_chosen
 chosen_once {t} {x} {ws} p r ok = go (is_mdr r) refl
   where
@@ -159,7 +161,7 @@ none_in : (ws : List Window) → chosen_in ws [] ≡ 0
 none_in [] = refl
 none_in (w ∷ ws) = omega (arith, none_in ws)
 
-pub as_many : {t x : Time} {ws : List Window} → Parted t x ws → (rs : List (List ℕ)) → ((r : List ℕ) → In r rs → is_time (time_at r 8) ≡ true) → chosen_in ws rs ≡ length (only (is_chosen (window t x)) rs)
+pub as_many : {t x : Option Time} {ws : List Window} → Parted t x ws → (rs : List (List ℕ)) → ((r : List ℕ) → In r rs → is_time (time_at r 8) ≡ true) → chosen_in ws rs ≡ length (only (is_chosen (window t x)) rs)
 as_many {ws = ws} p [] f = none_in ws
 as_many {t} {x} {ws} p (r ∷ rs) f = omega (arith, one_counted ws r rs, chosen_once p r (f r (top refl)), as_many p rs (λ y n. f y (pop n)), one (is_chosen (window t x) r))
   where
@@ -169,7 +171,7 @@ as_many {t} {x} {ws} p (r ∷ rs) f = omega (arith, one_counted ws r rs, chosen_
 
 -- ---- OF A PRODUCT a, cut by each of the windows: its MDRs that the whole window chooses are each in one of the cuts and in no second, and no other is in any;
 -- the cuts have as many together as the cut by the whole (what a cut has is told by `town-mdrs`)
-module _ {a : List ℕ} (m : Meets a) {t x : Time} {ws : List Window} (p : Parted t x ws) where
+module _ {a : List ℕ} (m : Meets a) {t x : Option Time} {ws : List Window} (p : Parted t x ws) where
   starts_stand : (r : List ℕ) → In r (records_at a m.list) → is_time (time_at r 8) ≡ true
   starts_stand r n = (own_times r ((meets_built a m).tiles.own r n).times).0
 
@@ -180,15 +182,15 @@ module _ {a : List ℕ} (m : Meets a) {t x : Time} {ws : List Window} (p : Parte
   cuts_in_all = as_many p (records_at a m.list) starts_stand
 
 -- and where the windows part the whole line of times, each MDR with a defined start is in just one of the cuts
-line_holds : (y : Time) → Valid y → is_time y ≡ true → (y ≡ T.Undefined → ⊥) → within (window line_start line_end) y ≡ true
-line_holds T.Undefined v ok n = absurd (n refl)
-line_holds (T.At d m) (h, l) ok n =
-    let x = up_to 0 0 d m record { first = le-leb 0 (last_milli 0) (omega arith); second = ok; days = omega arith; millis = λ z. omega arith } in
-    let y = up_to d m 65535 (last_milli 65535) record { first = ok; second = le-leb (last_milli 65535) (last_milli 65535) (omega arith); days = omega arith; millis = λ z. omega (arith, ap last_milli z) } in
+line_holds : (y : Option Time) → Valid y → is_time y ≡ true → (y ≡ None → ⊥) → within (window line_start line_end) y ≡ true
+line_holds None v ok n = absurd (n refl)
+line_holds (Some t) (h, l) ok n =
+    let x = up_to 0 0 t.day t.milli record { first = le-leb 0 (last_milli 0) (omega arith); second = ok; days = omega arith; millis = λ z. omega arith } in
+    let y = up_to t.day t.milli 65535 (last_milli 65535) record { first = ok; second = le-leb (last_milli 65535) (last_milli 65535) (omega arith); days = omega arith; millis = λ z. omega (arith, ap last_milli z) } in
     rw (x, y)
 
 pub each_once :
-    {a : List ℕ} → Bytes a → (m : Meets a) {ws : List Window} → Parted line_start line_end ws → (r : List ℕ) → In r (records_at a m.list) → is_mdr r ≡ true → (time_at r 8 ≡ T.Undefined → ⊥)
+    {a : List ℕ} → Bytes a → (m : Meets a) {ws : List Window} → Parted line_start line_end ws → (r : List ℕ) → In r (records_at a m.list) → is_mdr r ≡ true → (time_at r 8 ≡ None → ⊥)
     → choosing ws r ≡ 1
 unfolding is_chosen
 each_once {a} byte m p r n e d =

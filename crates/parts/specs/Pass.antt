@@ -4,8 +4,10 @@
 -- and one millisecond of overlap allowed. Assumes nothing.
 use Rattle.std.specs.Prelude.{ℕ, ◌+◌, ◌≡◌, Bool, true, false, List, [], ◌∷◌, ltb}
 use Rattle.meter.specs.Time.{time_at, compared}
+use Rattle.std.specs.declared.option.Option.TheVariants.{Some, None}
+use Rattle.std.specs.declared.option.Option.{Option}
 use Rattle.meter.specs.declared.time.Time.{Time}
-use Rattle.meter.specs.declared.time.Time.TheVariants as T
+use Rattle.meter.specs.Instant as T
 use Rattle.record.specs.Times.{is_after}
 use Rattle.moment.specs.Moment.{overlap_between}
 use Rattle.parts.specs.Parts.{bytes, bytes_of}
@@ -27,32 +29,32 @@ pub record Alike (i : Bool) (m n : List ℕ) (rs ss : List (List ℕ)) : Type 0 
   pub records : Like i rs ss
 
 -- the second of two times, or the first where it is undefined; and the other way round
-abbrev pub last_of : Time → Time → Time
-last_of t T.Undefined = t
-last_of t (T.At d m) = T.At d m
+abbrev pub last_of : Option Time → Option Time → Option Time
+last_of t None = t
+last_of t (Some u) = T.At u.day u.milli
 
-abbrev pub first_of : Time → Time → Time
-first_of T.Undefined u = u
-first_of (T.At d m) u = T.At d m
+abbrev pub first_of : Option Time → Option Time → Option Time
+first_of None u = u
+first_of (Some t) u = T.At t.day t.milli
 
-abbrev pub last_stop_from : Time → List (List ℕ) → Time
+abbrev pub last_stop_from : Option Time → List (List ℕ) → Option Time
 last_stop_from t [] = t
 last_stop_from t (r ∷ rs) = last_stop_from (last_of t (time_at r 14)) rs
 
-abbrev pub first_start_from : Time → List (List ℕ) → Time
+abbrev pub first_start_from : Option Time → List (List ℕ) → Option Time
 first_start_from t [] = t
 first_start_from t (r ∷ rs) = first_start_from (first_of t (time_at r 8)) rs
 
 -- "the last defined MDR stop .. in record order", "the first defined MDR start"; undefined where there is none
-abbrev pub last_defined_stop : List (List ℕ) → Time
-last_defined_stop rs = last_stop_from T.Undefined (only is_mdr rs)
+abbrev pub last_defined_stop : List (List ℕ) → Option Time
+last_defined_stop rs = last_stop_from None (only is_mdr rs)
 
-abbrev pub first_defined_start : List (List ℕ) → Time
-first_defined_start ss = first_start_from T.Undefined (only is_mdr ss)
+abbrev pub first_defined_start : List (List ℕ) → Option Time
+first_defined_start ss = first_start_from None (only is_mdr ss)
 
 -- "not after .. (met where either has none)": undefined times have no order. Of granules of a pass, not more than one millisecond after, on the line of request
 -- Twelve: "one millisecond of overlap between MDRs that follow each other is nominal"
-abbrev pub is_late : Bool → Time → Time → Bool
+abbrev pub is_late : Bool → Option Time → Option Time → Bool
 is_late true t u = is_after (compared t u)
 is_late false t u = ltb 1 (overlap_between t u)
 

@@ -4,8 +4,9 @@
 use Rattle.std.specs.Prelude.{ℕ, ◌+◌, ◌≡◌, Bool, false, cond, ◌||◌, List, [], ◌∷◌, ◌++◌, pos}
 use Rattle.meter.specs.General.{number_of}
 use Rattle.text.specs.Field.{is_x}
-use Rattle.text.specs.declared.Number.{Number}
-use Rattle.text.specs.declared.Number.TheVariants as N
+use Rattle.std.specs.declared.option.Option.TheVariants.{Some, None}
+use Rattle.std.specs.declared.option.Option.{Option}
+use Rattle.std.specs.Prelude.{ℤ}
 use Rattle.mphr.specs.Layout.{width_of, line_start}
 use Rattle.parts.specs.Parts.{bytes_of}
 use Rattle.parts.specs.Only.{only, is_sphr, is_global, is_variable, is_mdr}
@@ -50,8 +51,8 @@ sum_in k [] = 0
 sum_in k (g ∷ gs) = number_of g.main (line_start k + 32) (width_of k) + sum_in k gs
 
 -- "Counts and durations add, `x` absorbing"
-abbrev pub added_up : List Granule → ℕ → Number
-added_up gs k = cond (undefined_in k gs) N.Undefined (N.Whole (pos (sum_in k gs)))
+abbrev pub added_up : List Granule → ℕ → Option ℤ
+added_up gs k = cond (undefined_in k gs) None (Some (pos (sum_in k gs)))
 
 -- THE RECORDS: the SPHR and global records of the first, the variable records and then the MDRs of all, and the pointers
 abbrev pub pass_parts : List Granule → List (List ℕ)

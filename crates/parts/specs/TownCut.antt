@@ -3,6 +3,7 @@
 -- present in classes 4..8"). The records are said by `cut_parts`, the lines of the main header by `cut_values`; all else of the header is kept
 -- (`Rewritten`). Assumes nothing.
 use Rattle.std.specs.Prelude.{ℕ, ◌<◌, ◌≡◌, List}
+use Rattle.std.specs.declared.option.Option.{Option}
 use Rattle.meter.specs.declared.time.Time.{Time}
 use Rattle.demands.specs.Product.{Meets}
 use Rattle.parts.specs.Parts.{bytes_of, main_of, records_at}
@@ -32,8 +33,8 @@ pub record Unnamed (k : ℕ) : Type 0 where
 -- "The two sensing times, and bytes 16..30 and 32..46 of PRODUCT_NAME, are the earliest start and latest defined stop of the chosen MDRs, cut to whole seconds,
 -- or `x` where there is none": of the cut b of a, whose MDRs are these
 pub record Sensed (a b : List ℕ) (mdrs : List (List ℕ)) : Type 0 where
-  pub start : Time
-  pub stop : Time
+  pub start : Option Time
+  pub stop : Option Time
   pub earliest : EarliestStart mdrs start
   pub latest : LatestStop mdrs stop
   pub sensing_start : value_of (main_of b) 10 ≡ stamp (to_second start)

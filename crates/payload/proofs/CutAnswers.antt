@@ -5,8 +5,9 @@ use native.Mathlib.Omega.{arith}
 use mathlib.Core.Path.{◌≡◌, refl, sym, ap, subst}
 use mathlib.Core.List.{List, ◌++◌}
 use lib.ListN.{drop}
-use Rattle.meter.specs.declared.integer.Written.{Written}
-use Rattle.meter.specs.declared.integer.Written.TheVariants as W
+use Rattle.std.specs.declared.result.Result.TheVariants.{Ok}
+use Rattle.std.specs.declared.result.Result.{Result}
+use Rattle.calendar.specs.declared.Refusal.{Refusal}
 use Rattle.demands.specs.Product.{Meets}
 use Rattle.demands.proofs.Accepted.{complete_is_product, meets_fit}
 use Rattle.parts.specs.Parts.{bytes_of, main_of, records_at}
@@ -49,7 +50,7 @@ cut_over {a} {b} {w = w} t k u =
     let x = paid_apart k.header (cut_records a w k.product) (cut_records b w t.two) (town_built k u) (paid_cut t w k.product) in
     (bytes_of k.header (cut_records b w t.two), record { product = t.two; header = k.header; lines = y; whole = refl }, (apart_product x).0)
 
-answered : {a b : List ℕ} {w : Window} {room exit : List ℕ} {r : Written} → Twins a b → CutIs a w room r exit → (exit' : List ℕ) × CutIs b w room r exit'
+answered : {a b : List ℕ} {w : Window} {room exit : List ℕ} {r : Result ℕ Refusal} → Twins a b → CutIs a w room r exit → (exit' : List ℕ) × CutIs b w room r exit'
 answered {room = room} t (no_window e) = (room, no_window e)
 answered {a = a} t (unfit q e g) = absurd (meets_fit (complete_is_product (complete t)) q g)
 answered {w = w} {room = room} t (too_much u e g) = (room, too_much t.two e (λ h. g (holds_back t w u h)))
@@ -60,10 +61,10 @@ answered {b = b} {w = w} {room = room} t (written u c e g l k n) =
     let s = same_size t w u in
     let d = cut_over t k n in
     let z = cut_size b w t.two in
-    (d.0 ++ drop z room, subst (λ (m : ℕ). CutIs b w room (W.Bytes m) (d.0 ++ drop z room)) (sym s) (written t.two d.0 e (holds_over t w u g) (omega (arith, s)) d.1 d.2))
+    (d.0 ++ drop z room, subst (λ (m : ℕ). CutIs b w room (Ok m) (d.0 ++ drop z room)) (sym s) (written t.two d.0 e (holds_over t w u g) (omega (arith, s)) d.1 d.2))
 
 -- THE LAW
-pub same_cut_answer : {a b : List ℕ} {w : Window} {room x y : List ℕ} {r s : Written} → Apart a b → CutIs a w room r x → CutIs b w room s y → r ≡ s
+pub same_cut_answer : {a b : List ℕ} {w : Window} {room x y : List ℕ} {r s : Result ℕ Refusal} → Apart a b → CutIs a w room r x → CutIs b w room s y → r ≡ s
 same_cut_answer {b = b} {w = w} {room = room} {y = y} {r = r} {s = s} p f g =
     let k = answered (twins p) f in
     (unique_cut b w room r s k.0 y k.1 g).0

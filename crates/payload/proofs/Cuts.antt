@@ -11,7 +11,7 @@ use mathlib.Core.List.Memᴰ.{tail as pop}
 use mathlib.Core.List.{List, [], ◌∷◌, Memᴰ as In}
 use lib.ListN.{length, get_or, drop, length-drop}
 use lib.Seq.{ext_get_or, length-take-le, get_or-take, get_or-drop}
-use Rattle.meter.specs.declared.time.Time.TheVariants as T
+use Rattle.std.specs.declared.option.Option.TheVariants.{None}
 use Rattle.mphr.specs.Table.{declared}
 use Rattle.demands.specs.Product.{class, size, Records, none, more, Meets}
 use Rattle.demands.proofs.Accepted.{one_list}
@@ -118,7 +118,7 @@ module _ (m : List ℕ) (w : Window) {rs ss : List (List ℕ)} (p : Paid rs ss) 
   cut_paid = paid_assembled m (paid_only (of_class 2) p) (paid_only (kept_by w) p)
 
   other_same : other_lines m w rs ≡ other_lines m w ss
-  other_same = rw (paid_first T.Undefined (paid_only (chosen w) p), paid_last T.Undefined (paid_only (chosen w) p))
+  other_same = rw (paid_first None (paid_only (chosen w) p), paid_last None (paid_only (chosen w) p))
 
   pub cut_values_lem : cut_values m w rs ≡ cut_values m w ss
   cut_values_lem = ap (λ (l : List Anew). values_of l) (same_counts (other_lines m w rs) cut_paid ∙ ap (count_lines (cut_parts m w ss)) other_same)

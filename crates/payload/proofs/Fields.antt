@@ -29,16 +29,18 @@ use Rattle.judge.proofs.Local.{lawful, leads_on, sound_on, be_on, OpenAt}
 use Rattle.judge.proofs.WayLaws.{counts, linear}
 use Rattle.query.specs.Query as Q
 use Rattle.query.specs.Query.{StartOf, RecordFound, NoRecord, not_yet, RecordIs, main_part, sort_of, times_of, sort_number, FieldOf, Denied, short, not_a_field, Allowed, value_start, PartIs, TextIs, number_in, NumberIs, time_in, TimeIs, latitude_field, point_of, PointIs}
-use Rattle.query.specs.declared.RecordAnswer.{RecordAnswer}
-use Rattle.query.specs.declared.RecordAnswer.TheVariants as R
-use Rattle.query.specs.declared.FieldAnswer.{FieldAnswer}
-use Rattle.query.specs.declared.FieldAnswer.TheVariants as F
-use Rattle.query.specs.declared.NumberAnswer.{NumberAnswer}
-use Rattle.query.specs.declared.NumberAnswer.TheVariants as B
-use Rattle.query.specs.declared.TimeAnswer.{TimeAnswer}
-use Rattle.query.specs.declared.TimeAnswer.TheVariants as M
-use Rattle.query.specs.declared.PointAnswer.{PointAnswer}
-use Rattle.query.specs.declared.PointAnswer.TheVariants as P
+use Rattle.std.specs.declared.option.Option.TheVariants.{Some, None}
+use Rattle.std.specs.declared.result.Result.TheVariants.{Ok, Err}
+use Rattle.std.specs.declared.option.Option.{Option}
+use Rattle.std.specs.declared.result.Result.{Result}
+use Rattle.calendar.specs.declared.Refusal.{Refusal}
+use Rattle.std.specs.Prelude.{ℤ}
+use Rattle.meter.specs.declared.general.Moment.{Moment}
+use Rattle.query.specs.declared.GroundPoint.{GroundPoint}
+use Rattle.query.specs.declared.Record.{Record}
+use Rattle.query.specs.declared.Part.{Part}
+use Rattle.query.specs.Found.{part_found}
+use Rattle.query.specs.Found.{record_found}
 use Rattle.query.proofs.QueryLaws.{same_answer, start_small, time_read, latitude_small}
 use Rattle.query.proofs.QueryDetermined.{unique_record_at, unique_text_field, unique_number_field, unique_time_of, unique_ground_point}
 use Rattle.payload.specs.Apart.{Apart}
@@ -121,11 +123,11 @@ module _ {a b : List ℕ} (t : Twins a b) where
   no_record_over (Q.NoRecord.faulty g) = absurd (not_clean g (complete t).clean)
   no_record_over (not_yet o h) = not_yet (opened o) h
 
-  record_over : (k : ℕ) (r : RecordAnswer) → RecordIs a k r → RecordIs b k r
-  record_over k (R.Record i h) f =
+  record_over : (k : ℕ) (r : Result Record Refusal) → RecordIs a k r → RecordIs b k r
+  record_over k (Ok u) f =
       let s = start_over (whole_open f.waiting) f.below f.start in
-      record { count = f.count; end = f.end; waiting = opened f.waiting; below = f.below; start = s.0; header = f.header ∙ same_header t i s.1 }
-  record_over k (R.Refused r) f = no_record_over f
+      record { count = f.count; end = f.end; waiting = opened f.waiting; below = f.below; start = s.0; header = f.header ∙ same_header t u.start s.1 }
+  record_over k (Err r) f = no_record_over f
 
 -- ---- THE FIELDS
 -- a time's field is as wide as its digits and the last byte
@@ -167,18 +169,18 @@ module _ {a b : List ℕ} (t : Twins a b) where
   denied_over (short c h) = absurd (omega (arith, long_enough t))
   denied_over (not_a_field c h d) = not_a_field (subst Clean main_over c) (long_enough (turned t)) d
 
-  text_over : (k : ℕ) (r : FieldAnswer) → TextIs a k r → TextIs b k r
-  text_over k (F.Part i w) f = record { allowed = allowed_over f.allowed; start_is = f.start_is; width_is = f.width_is }
-  text_over k (F.Refused r) f = denied_over f
+  text_over : (k : ℕ) (r : Result Part Refusal) → TextIs a k r → TextIs b k r
+  text_over k (Ok t) f = record { allowed = allowed_over f.allowed; start_is = f.start_is; width_is = f.width_is }
+  text_over k (Err r) f = denied_over f
 
   number_same : (k : ℕ) → k ≤ 71 → number_in a k ≡ number_in b k
   number_same k h =
       let al = field_alike (same_main t) (value_start k) (width_of k) (omega (arith, start_small h)) in
       rw (x_alike al, integer_alike al)
 
-  number_over : (k : ℕ) (r : NumberAnswer) → NumberIs a k r → NumberIs b k r
-  number_over k (B.Number x) f = (allowed_over f.0, f.1 ∙ number_same k f.0.field.known)
-  number_over k (B.Refused r) f = denied_over f
+  number_over : (k : ℕ) (r : Result (Option ℤ) Refusal) → NumberIs a k r → NumberIs b k r
+  number_over k (Ok x) f = (allowed_over f.0, f.1 ∙ number_same k f.0.field.known)
+  number_over k (Err r) f = denied_over f
 
   time_same : (k : ℕ) (long : Bool) → Allowed a k (times_of long) → time_in a k long ≡ time_in b k long
   time_same k long w =
@@ -190,9 +192,9 @@ module _ {a b : List ℕ} (t : Twins a b) where
       let pb : PartIs b k (times_of long) (value_start k) (width_of k) = record { allowed = allowed_over w; start_is = refl; width_is = refl } in
       same_answer (sym (time_read long pa) ∙ general_read_alike al long (omega arith) (omega (arith, long_enough t)) (omega (arith, long_enough (turned t))) ∙ time_read long pb)
 
-  time_over : (k : ℕ) (long : Bool) (r : TimeAnswer) → TimeIs a k long r → TimeIs b k long r
-  time_over k long (M.Time x) f = (allowed_over f.0, f.1 ∙ time_same k long f.0)
-  time_over k long (M.Refused r) f = denied_over f
+  time_over : (k : ℕ) (long : Bool) (r : Result (Option Moment) Refusal) → TimeIs a k long r → TimeIs b k long r
+  time_over k long (Ok x) f = (allowed_over f.0, f.1 ∙ time_same k long f.0)
+  time_over k long (Err r) f = denied_over f
 
   point_same : (end : Bool) → point_of (number_in a (latitude_field end)) (number_in a (latitude_field end + 1)) ≡ point_of (number_in b (latitude_field end)) (number_in b (latitude_field end + 1))
   point_same end =
@@ -200,45 +202,45 @@ module _ {a b : List ℕ} (t : Twins a b) where
       ap (λ (x : _). point_of x (number_in a (latitude_field end + 1))) (number_same (latitude_field end) (omega arith))
       ∙ ap (point_of (number_in b (latitude_field end))) (number_same (latitude_field end + 1) (omega arith))
 
-  point_over : (end : Bool) (r : PointAnswer) → PointIs a end r → PointIs b end r
-  point_over end (P.Point g) f = record { allowed = allowed_over f.allowed; point = f.point ∙ point_same end }
-  point_over end P.Missing f = record { allowed = allowed_over f.allowed; point = f.point ∙ point_same end }
-  point_over end (P.Refused r) f = denied_over f
+  point_over : (end : Bool) (r : Result (Option GroundPoint) Refusal) → PointIs a end r → PointIs b end r
+  point_over end (Ok (Some g)) f = record { allowed = allowed_over f.allowed; point = f.point ∙ point_same end }
+  point_over end (Ok None) f = record { allowed = allowed_over f.allowed; point = f.point ∙ point_same end }
+  point_over end (Err r) f = denied_over f
 
 -- ---- THE LAWS
 module _ {a b : List ℕ} (x : Apart a b) where
   -- the record query: the same start and header for every k, and where there is none the same 19
-  pub apart_record : (k : ℕ) (r : RecordAnswer) → RecordIs a k r → RecordIs b k r
+  pub apart_record : (k : ℕ) (r : Result Record Refusal) → RecordIs a k r → RecordIs b k r
   apart_record = record_over (twins x)
 
-  pub same_record : (k : ℕ) (r s : RecordAnswer) → RecordIs a k r → RecordIs b k s → r ≡ s
+  pub same_record : (k : ℕ) (r s : Result Record Refusal) → RecordIs a k r → RecordIs b k s → r ≡ s
   same_record k r s f g = unique_record_at b k r s (apart_record k r f) g
 
   -- each of the 72 fields, by whichever query, and where it is refused alike; a text's bytes are those of the main header
   pub apart_main : main_part a ≡ main_part b
   apart_main = main_over (twins x)
 
-  pub apart_text_field : (k : ℕ) (r : FieldAnswer) → TextIs a k r → TextIs b k r
+  pub apart_text_field : (k : ℕ) (r : Result Part Refusal) → TextIs a k r → TextIs b k r
   apart_text_field = text_over (twins x)
 
-  pub same_text_field : (k : ℕ) (r s : FieldAnswer) → TextIs a k r → TextIs b k s → r ≡ s
+  pub same_text_field : (k : ℕ) (r s : Result Part Refusal) → TextIs a k r → TextIs b k s → r ≡ s
   same_text_field k r s f g = unique_text_field b k r s (apart_text_field k r f) g
 
-  pub apart_number : (k : ℕ) (r : NumberAnswer) → NumberIs a k r → NumberIs b k r
+  pub apart_number : (k : ℕ) (r : Result (Option ℤ) Refusal) → NumberIs a k r → NumberIs b k r
   apart_number = number_over (twins x)
 
-  pub same_number : (k : ℕ) (r s : NumberAnswer) → NumberIs a k r → NumberIs b k s → r ≡ s
+  pub same_number : (k : ℕ) (r s : Result (Option ℤ) Refusal) → NumberIs a k r → NumberIs b k s → r ≡ s
   same_number k r s f g = unique_number_field b k r s (apart_number k r f) g
 
-  pub apart_time : (k : ℕ) (long : Bool) (r : TimeAnswer) → TimeIs a k long r → TimeIs b k long r
+  pub apart_time : (k : ℕ) (long : Bool) (r : Result (Option Moment) Refusal) → TimeIs a k long r → TimeIs b k long r
   apart_time = time_over (twins x)
 
-  pub same_time : (k : ℕ) (long : Bool) (r s : TimeAnswer) → TimeIs a k long r → TimeIs b k long s → r ≡ s
+  pub same_time : (k : ℕ) (long : Bool) (r s : Result (Option Moment) Refusal) → TimeIs a k long r → TimeIs b k long s → r ≡ s
   same_time k long r s f g = unique_time_of b k long r s (apart_time k long r f) g
 
   -- both ground points
-  pub apart_point : (end : Bool) (r : PointAnswer) → PointIs a end r → PointIs b end r
+  pub apart_point : (end : Bool) (r : Result (Option GroundPoint) Refusal) → PointIs a end r → PointIs b end r
   apart_point = point_over (twins x)
 
-  pub same_point : (end : Bool) (r s : PointAnswer) → PointIs a end r → PointIs b end s → r ≡ s
+  pub same_point : (end : Bool) (r s : Result (Option GroundPoint) Refusal) → PointIs a end r → PointIs b end s → r ≡ s
   same_point end r s f g = unique_ground_point b end r s (apart_point end r f) g

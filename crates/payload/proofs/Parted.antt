@@ -12,6 +12,7 @@ use lib.Dec.{eqb, ltb}
 use lib.ListN.{length, get_or, length-append, get_or-append}
 use Rattle.meter.specs.Integer.{be_at}
 use Rattle.meter.specs.Time.{time_at}
+use Rattle.std.specs.declared.option.Option.{Option}
 use Rattle.meter.specs.declared.time.Time.{Time}
 use Rattle.meter.proofs.IntegerLaws.{be_at_same}
 use Rattle.demands.specs.Product.{class}
@@ -81,13 +82,13 @@ pub paid_count : (c : ℕ) {rs ss : List (List ℕ)} → Paid rs ss → count c 
 paid_count c none = refl
 paid_count c (more p ps) = rw (class_paid p, paid_count c ps)
 
-pub paid_first : (t : Time) {rs ss : List (List ℕ)} → Paid rs ss → first_from t rs ≡ first_from t ss
+pub paid_first : (t : Option Time) {rs ss : List (List ℕ)} → Paid rs ss → first_from t rs ≡ first_from t ss
 paid_first t none = refl
-paid_first t (more {r = r} {s = s} {rs = rs} p ps) = ap (λ (u : Time). first_from (sooner t u) rs) (start_paid p) ∙ paid_first (sooner t (time_at s 8)) ps
+paid_first t (more {r = r} {s = s} {rs = rs} p ps) = ap (λ (u : Option Time). first_from (sooner t u) rs) (start_paid p) ∙ paid_first (sooner t (time_at s 8)) ps
 
-pub paid_last : (t : Time) {rs ss : List (List ℕ)} → Paid rs ss → last_from t rs ≡ last_from t ss
+pub paid_last : (t : Option Time) {rs ss : List (List ℕ)} → Paid rs ss → last_from t rs ≡ last_from t ss
 paid_last t none = refl
-paid_last t (more {r = r} {s = s} {rs = rs} p ps) = ap (λ (u : Time). last_from (later t u) rs) (stop_paid p) ∙ paid_last (later t (time_at s 14)) ps
+paid_last t (more {r = r} {s = s} {rs = rs} p ps) = ap (λ (u : Option Time). last_from (later t u) rs) (stop_paid p) ∙ paid_last (later t (time_at s 14)) ps
 
 -- ---- THE FIRST OF EACH KIND
 record Twin (e x : Entry) : Type 0 where

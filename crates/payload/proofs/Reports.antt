@@ -10,13 +10,14 @@ use mathlib.Core.List.Memᴰ.{tail as pop}
 use mathlib.Core.List.{List, [], ◌∷◌, Memᴰ as In}
 use lib.Dec.{eqb}
 use Rattle.meter.specs.Time.{time_of, time_at}
+use Rattle.std.specs.declared.option.Option.{Option}
+use Rattle.calendar.specs.declared.Refusal.{Refusal}
 use Rattle.meter.specs.declared.time.Time.{Time}
 use Rattle.meter.proofs.IntegerLaws.{be_at_same}
 use Rattle.demands.specs.Product.{class, size}
 use Rattle.demands.proofs.Accepted.{meets_fit, one_list}
 use Rattle.moment.specs.Moment.{gap_between, overlap_between, undefined_between}
-use Rattle.month.specs.Report.{sum_of, records_in, bytes_in, mdrs, over_pairs, stop_to_start, contribution, Contributes, accepted, unfit, AddIs}
-use Rattle.month.specs.declared.report.Added.{Added}
+use Rattle.month.specs.Report.{sum_of, records_in, bytes_in, mdrs, over_pairs, stop_to_start, contribution, Contributes, accepted, unfit, Added, AddIs}
 use Rattle.month.proofs.ReportLaws.{unique_add}
 use Rattle.payload.specs.Apart.{Apart}
 use Rattle.payload.proofs.Twins.{Twins, twins, alike, header_byte}
@@ -57,10 +58,10 @@ module _ {a b : List ℕ} (t : Twins a b) where
   same_time : (i k : ℕ) → In i all → k ≤ 14 → time_at a (i + k) ≡ time_at b (i + k)
   same_time i k m h = ap time_of (be_at_same a b (i + k) (i + k) 6 (λ j l. let e : i + k + j ≡ i + (k + j) = omega arith in rw e (header_byte t i m (k + j) (omega arith))))
 
-  same_between : (f : Time → Time → ℕ) (i j : ℕ) → In i all → In j all → stop_to_start f a i j ≡ stop_to_start f b i j
-  same_between f i j m n = ap (λ (x : Time). f x (time_at a (j + 8))) (same_time i 14 m (omega arith)) ∙ ap (f (time_at b (i + 14))) (same_time j 8 n (omega arith))
+  same_between : (f : Option Time → Option Time → ℕ) (i j : ℕ) → In i all → In j all → stop_to_start f a i j ≡ stop_to_start f b i j
+  same_between f i j m n = ap (λ (x : Option Time). f x (time_at a (j + 8))) (same_time i 14 m (omega arith)) ∙ ap (f (time_at b (i + 14))) (same_time j 8 n (omega arith))
 
-  same_over : (f : Time → Time → ℕ) → over_pairs (stop_to_start f a) (mdrs a all) ≡ over_pairs (stop_to_start f b) (mdrs b all)
+  same_over : (f : Option Time → Option Time → ℕ) → over_pairs (stop_to_start f a) (mdrs a all) ≡ over_pairs (stop_to_start f b) (mdrs b all)
   same_over f = ap (over_pairs (stop_to_start f a)) (same_mdrs all (λ j n. n)) ∙ same_pairs (stop_to_start f a) (stop_to_start f b) (same_between f) (mdrs b all) (mdrs_among all (λ j n. n))
 
   same_contribution : contribution a all ≡ contribution b all
@@ -69,7 +70,7 @@ module _ {a b : List ℕ} (t : Twins a b) where
       let s : (c : ℕ) → bytes_in a all c ≡ bytes_in b all c = λ c. same_sum (size a) (size b) (λ i m. (alike t i m).size) c all (λ j n. n) in
       rw (r 1, r 2, r 3, r 4, r 5, r 6, r 7, r 8, s 1, s 2, s 3, s 4, s 5, s 6, s 7, s 8, same_over gap_between, same_over overlap_between, same_over undefined_between)
 
-  contributes_over : {r : Added} {v : List ℕ} → Contributes a r v → Contributes b r v
+  contributes_over : {r : Option Refusal} {v : List ℕ} → Contributes a r v → Contributes b r v
   contributes_over (accepted m) =
       let e : contribution b (0 ∷ t.two.list) ≡ contribution a (0 ∷ m.list) = ap (λ (l : List ℕ). contribution b (0 ∷ l)) t.list ∙ sym same_contribution ∙ ap (λ (l : List ℕ). contribution a (0 ∷ l)) (one_list t.one m) in
       subst (Contributes b _) e (accepted t.two)
@@ -77,7 +78,7 @@ module _ {a b : List ℕ} (t : Twins a b) where
 
 -- ---- THE LAWS
 module _ {a b : List ℕ} (x : Apart a b) where
-  pub apart_contributes : {r : Added} {v : List ℕ} → Contributes a r v → Contributes b r v
+  pub apart_contributes : {r : Option Refusal} {v : List ℕ} → Contributes a r v → Contributes b r v
   apart_contributes = contributes_over (twins x)
 
   -- added to the same report

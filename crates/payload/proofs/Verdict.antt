@@ -13,15 +13,16 @@ use Rattle.tables.proofs.Laws.{not_clean}
 use Rattle.mphr.specs.Layout.{bytes_of}
 use Rattle.judge.specs.Table.{class_at}
 use Rattle.judge.specs.Extent.{Short, Covered, ExtentIs}
-use Rattle.judge.specs.declared.arrival.Extent.{Extent}
-use Rattle.judge.specs.declared.arrival.Extent.TheVariants as X
+use Rattle.std.specs.declared.option.Option.TheVariants.{Some, None}
+use Rattle.std.specs.declared.result.Result.TheVariants.{Ok, Err}
+use Rattle.std.specs.declared.option.Option.{Option}
+use Rattle.std.specs.declared.result.Result.{Result}
+use Rattle.calendar.specs.declared.Refusal.{Refusal}
 use Rattle.finish.specs.Rows.{group_at, subclass_at, how_many, ordinal, row, rows_after, rows_of}
 use Rattle.judge.specs.Profile.{is_allowed}
 use Rattle.finish.specs.Profile.{first_against}
 use Rattle.finish.specs.Finish.{starts, put, Refuses, VerdictIs, FinishedIs, RefusesBy, against, RowsBy}
 use Rattle.finish.specs.Finish as E
-use Rattle.finish.specs.declared.Finished.{Finished}
-use Rattle.finish.specs.declared.Finished.TheVariants as F
 use Rattle.demands.proofs.Accept.{complete_covered}
 use Rattle.demands.proofs.Accepted.{covers, unique_finished, unique_verdict, meets_fit}
 use Rattle.level0.specs.Profile.{level0, Level0Is}
@@ -29,8 +30,6 @@ use Rattle.level0.proofs.ByLaws.{unique_by}
 use Rattle.listing.specs.Decimal.{column}
 use Rattle.listing.specs.Listing as S
 use Rattle.listing.specs.Listing.{line, lines, listing, Wrote, Lists, NoList, too_large, ListedIs}
-use Rattle.listing.specs.declared.Listed.{Listed}
-use Rattle.listing.specs.declared.Listed.TheVariants as B
 use Rattle.listing.proofs.Determined.{unique_list}
 use Rattle.payload.specs.Apart.{Apart}
 use Rattle.payload.proofs.Twins.{Twins, twins, turned, alike, complete}
@@ -108,24 +107,24 @@ module _ {a b : List ℕ} (t : Twins a b) where
   refuses_over (E.Refuses.short c s) = absurd (not_short s)
   refuses_over (E.Refuses.no_room k v l) = E.Refuses.no_room (complete (turned t)) (covered_over v) l
 
-  finished_over : (rows : List (List ℕ)) (r : Finished) (rows' : List (List ℕ)) → FinishedIs a rows r rows' → FinishedIs b rows r rows'
-  finished_over rows (F.Accepted c) rows' f =
+  finished_over : (rows : List (List ℕ)) (r : Result ℕ Refusal) (rows' : List (List ℕ)) → FinishedIs a rows r rows' → FinishedIs b rows r rows'
+  finished_over rows (Ok c) rows' f =
       let v = f.filled.covered in
       let w = covered_over v in
       record {
         complete = complete (turned t);
         filled = record { covered = w; fits = f.filled.fits; index = f.filled.index ∙ ap (λ (l : List (List ℕ)). put 0 l rows) (rows_over v w) };
       }
-  finished_over rows (F.Refused r) rows' (f, e) = (refuses_over f, e)
+  finished_over rows (Err r) rows' (f, e) = (refuses_over f, e)
 
-  extent_over : (r : Extent) → ExtentIs a r → ExtentIs b r
-  extent_over X.Part (c, s) = absurd (not_short s)
-  extent_over (X.Entire c) (k, v) = (complete (turned t), covered_over v)
-  extent_over (X.Refused r) g = absurd (not_clean g (complete t).clean)
+  extent_over : (r : Result (Option ℕ) Refusal) → ExtentIs a r → ExtentIs b r
+  extent_over (Ok None) (c, s) = absurd (not_short s)
+  extent_over (Ok (Some c)) (k, v) = (complete (turned t), covered_over v)
+  extent_over (Err r) g = absurd (not_clean g (complete t).clean)
 
-  verdict_over : (r : Finished) → VerdictIs a r → VerdictIs b r
-  verdict_over (F.Accepted c) (k, v) = (complete (turned t), covered_over v)
-  verdict_over (F.Refused r) g = absurd (meets_fit t.one r g)
+  verdict_over : (r : Result ℕ Refusal) → VerdictIs a r → VerdictIs b r
+  verdict_over (Ok c) (k, v) = (complete (turned t), covered_over v)
+  verdict_over (Err r) g = absurd (meets_fit t.one r g)
 
   -- a profile reads the class, group, subclass and version
   same_allowed : (p : List (List ℕ)) (i : ℕ) → In i all → is_allowed p a i ≡ is_allowed p b i
@@ -144,8 +143,8 @@ module _ {a b : List ℕ} (t : Twins a b) where
   refuses_by_over {p} (against k v e) = let w = covered_over v in against (complete (turned t)) w (sym (against_over p v w) ∙ e)
   refuses_by_over {p} (E.RefusesBy.no_room k v e l) = let w = covered_over v in E.RefusesBy.no_room (complete (turned t)) w (sym (against_over p v w) ∙ e) l
 
-  by_over : (p rows : List (List ℕ)) (r : Finished) (rows' : List (List ℕ)) → RowsBy p a rows r rows' → RowsBy p b rows r rows'
-  by_over p rows (F.Accepted c) rows' f =
+  by_over : (p rows : List (List ℕ)) (r : Result ℕ Refusal) (rows' : List (List ℕ)) → RowsBy p a rows r rows' → RowsBy p b rows r rows'
+  by_over p rows (Ok c) rows' f =
       let v = f.accepts.filled.covered in
       let w = covered_over v in
       record {
@@ -155,7 +154,7 @@ module _ {a b : List ℕ} (t : Twins a b) where
         };
         allowed = sym (against_over p v w) ∙ f.allowed;
       }
-  by_over p rows (F.Refused r) rows' (f, e) = (refuses_by_over f, e)
+  by_over p rows (Err r) rows' (f, e) = (refuses_by_over f, e)
 
   no_list_over : {room : List ℕ} {n p : ℕ} → NoList a room n p → NoList b room n p
   no_list_over (too_large h) = too_large (omega (arith, t.repaid.long))
@@ -167,8 +166,8 @@ module _ {a b : List ℕ} (t : Twins a b) where
       let z : NoList b room 18 (length (listing w)) = S.NoList.no_room (omega (arith, t.repaid.long)) (complete (turned t)) w (omega (arith, ap length e)) in
       subst (λ (y : List ℕ). NoList b room 18 (length y)) (sym e) z
 
-  listed_over : (room : List ℕ) (r : Listed) (exit : List ℕ) → ListedIs a room r exit → ListedIs b room r exit
-  listed_over room (B.Bytes n) exit f =
+  listed_over : (room : List ℕ) (r : Result ℕ Refusal) (exit : List ℕ) → ListedIs a room r exit → ListedIs b room r exit
+  listed_over room (Ok n) exit f =
       let w = covered_over f.covered in
       record {
         small = omega (arith, f.small, t.repaid.long);
@@ -177,45 +176,45 @@ module _ {a b : List ℕ} (t : Twins a b) where
         covered = w;
         wrote = subst (λ (x : List ℕ). Wrote room x n exit) (listing_over f.covered w) f.wrote;
       }
-  listed_over room (B.Refused r) exit (f, e) = (no_list_over f, e)
+  listed_over room (Err r) exit (f, e) = (no_list_over f, e)
 
 -- ---- THE LAWS
 module _ {a b : List ℕ} (x : Apart a b) where
   -- "It is accepted still, with the same rows": whatever the room, what is right to answer and to write is the same, both ways
-  pub apart_finished : (rows : List (List ℕ)) (r : Finished) (rows' : List (List ℕ)) → FinishedIs a rows r rows' → FinishedIs b rows r rows'
+  pub apart_finished : (rows : List (List ℕ)) (r : Result ℕ Refusal) (rows' : List (List ℕ)) → FinishedIs a rows r rows' → FinishedIs b rows r rows'
   apart_finished = finished_over (twins x)
 
-  pub apart_finished_back : (rows : List (List ℕ)) (r : Finished) (rows' : List (List ℕ)) → FinishedIs b rows r rows' → FinishedIs a rows r rows'
+  pub apart_finished_back : (rows : List (List ℕ)) (r : Result ℕ Refusal) (rows' : List (List ℕ)) → FinishedIs b rows r rows' → FinishedIs a rows r rows'
   apart_finished_back = finished_over (turned (twins x))
 
   -- so two runs end alike
   pub same_finished :
-      (rows : List (List ℕ)) (r s : Finished) (y z : List (List ℕ)) → FinishedIs a rows r y → FinishedIs b rows s z → (r ≡ s) × (y ≡ z)
+      (rows : List (List ℕ)) (r s : Result ℕ Refusal) (y z : List (List ℕ)) → FinishedIs a rows r y → FinishedIs b rows s z → (r ≡ s) × (y ≡ z)
   same_finished rows r s y z f g = unique_finished b rows r s y z (apart_finished rows r y f) g
 
   -- the verdict without rows, which is the finished judge since request Fourteen: the same answer
-  pub apart_verdict : (r : Finished) → VerdictIs a r → VerdictIs b r
+  pub apart_verdict : (r : Result ℕ Refusal) → VerdictIs a r → VerdictIs b r
   apart_verdict = verdict_over (twins x)
 
-  pub same_verdict : (r s : Finished) → VerdictIs a r → VerdictIs b s → r ≡ s
+  pub same_verdict : (r s : Result ℕ Refusal) → VerdictIs a r → VerdictIs b s → r ≡ s
   same_verdict r s f g = unique_verdict b r s (apart_verdict r f) g
 
   -- and by a profile, whichever it is: Level 0 is one (request Nine)
-  pub apart_by : (p rows : List (List ℕ)) (r : Finished) (rows' : List (List ℕ)) → RowsBy p a rows r rows' → RowsBy p b rows r rows'
+  pub apart_by : (p rows : List (List ℕ)) (r : Result ℕ Refusal) (rows' : List (List ℕ)) → RowsBy p a rows r rows' → RowsBy p b rows r rows'
   apart_by = by_over (twins x)
 
-  pub same_level0 : (rows : List (List ℕ)) (r s : Finished) (y z : List (List ℕ)) → Level0Is a rows r y → Level0Is b rows s z → (r ≡ s) × (y ≡ z)
+  pub same_level0 : (rows : List (List ℕ)) (r s : Result ℕ Refusal) (y z : List (List ℕ)) → Level0Is a rows r y → Level0Is b rows s z → (r ≡ s) × (y ≡ z)
   same_level0 rows r s y z f g = unique_by level0 b rows r s y z (apart_by level0 rows r y f) g
 
-  pub apart_extent : (r : Extent) → ExtentIs a r → ExtentIs b r
+  pub apart_extent : (r : Result (Option ℕ) Refusal) → ExtentIs a r → ExtentIs b r
   apart_extent = extent_over (twins x)
 
   -- the listing: the same text, in the same room, or the same refusal
-  pub apart_listing : (room : List ℕ) (r : Listed) (exit : List ℕ) → ListedIs a room r exit → ListedIs b room r exit
+  pub apart_listing : (room : List ℕ) (r : Result ℕ Refusal) (exit : List ℕ) → ListedIs a room r exit → ListedIs b room r exit
   apart_listing = listed_over (twins x)
 
   pub apart_text : {c : ℕ} (v : Covered a c) (w : Covered b c) → listing v ≡ listing w
   apart_text = listing_over (twins x)
 
-  pub same_listing : (room : List ℕ) (r s : Listed) (y z : List ℕ) → ListedIs a room r y → ListedIs b room s z → (r ≡ s) × (y ≡ z)
+  pub same_listing : (room : List ℕ) (r s : Result ℕ Refusal) (y z : List ℕ) → ListedIs a room r y → ListedIs b room s z → (r ≡ s) × (y ≡ z)
   same_listing room r s y z f g = unique_list b room r s y z (apart_listing room r y f) g

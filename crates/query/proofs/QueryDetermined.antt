@@ -14,16 +14,17 @@ use Rattle.query.specs.Query as Q
 use Rattle.query.specs.Query.{StartOf, RecordFound, NoRecord, not_yet, RecordIs, Denied, short, not_a_field, Allowed, FieldIs, TextIs, NumberIs, TimeIs, PointIs}
 use Rattle.query.specs.declared.Sort.{Sort}
 use Rattle.query.specs.declared.Sort.TheVariants.{Texts}
-use Rattle.query.specs.declared.RecordAnswer.{RecordAnswer}
-use Rattle.query.specs.declared.RecordAnswer.TheVariants as R
-use Rattle.query.specs.declared.FieldAnswer.{FieldAnswer}
-use Rattle.query.specs.declared.FieldAnswer.TheVariants as F
-use Rattle.query.specs.declared.NumberAnswer.{NumberAnswer}
-use Rattle.query.specs.declared.NumberAnswer.TheVariants as B
-use Rattle.query.specs.declared.TimeAnswer.{TimeAnswer}
-use Rattle.query.specs.declared.TimeAnswer.TheVariants as T
-use Rattle.query.specs.declared.PointAnswer.{PointAnswer}
-use Rattle.query.specs.declared.PointAnswer.TheVariants as P
+use Rattle.std.specs.declared.option.Option.TheVariants.{Some, None}
+use Rattle.std.specs.declared.result.Result.TheVariants.{Ok, Err}
+use Rattle.std.specs.declared.option.Option.{Option}
+use Rattle.std.specs.declared.result.Result.{Result}
+use Rattle.std.specs.Prelude.{ℤ}
+use Rattle.meter.specs.declared.general.Moment.{Moment}
+use Rattle.query.specs.declared.GroundPoint.{GroundPoint}
+use Rattle.query.specs.declared.Record.{Record}
+use Rattle.query.specs.declared.Part.{Part}
+use Rattle.query.specs.Found.{part_found}
+use Rattle.query.specs.Found.{record_found}
 use Rattle.judge.proofs.WayLaws.{counts, linear}
 use Rattle.calendar.specs.declared.Refusal.{Refusal}
 use Rattle.tables.proofs.Laws.{not_clean}
@@ -61,14 +62,14 @@ no_and_found : {a : List ℕ} {k n p i : ℕ} {h : Header} → RecordFound a k i
 no_and_found f (Q.NoRecord.faulty g) = not_clean g f.waiting.clean
 no_and_found f (not_yet o l) = omega (arith, f.below, one_count _ _ _ _ _ f.waiting o)
 
-pub unique_record_at : (a : List ℕ) (k : ℕ) (r s : RecordAnswer) → RecordIs a k r → RecordIs a k s → r ≡ s
-unique_record_at a k (R.Record i h) (R.Record j g) f e =
+pub unique_record_at : (a : List ℕ) (k : ℕ) (r s : Result Record Refusal) → RecordIs a k r → RecordIs a k s → r ≡ s
+unique_record_at a k (Ok t) (Ok u) f e =
     let z = one_start f.start e.start in
-    let w : h ≡ g = f.header ∙ ap (header_at a) z ∙ sym e.header in
-    ap (λ (n : ℕ). R.Record n h) z ∙ ap (R.Record j) w
-unique_record_at a k (R.Record i h) (R.Refused s) f e = absurd (no_and_found f e)
-unique_record_at a k (R.Refused r) (R.Record j g) f e = absurd (no_and_found e f)
-unique_record_at a k (R.Refused r) (R.Refused s) f e = ap R.Refused (one_refusal r s (one_no_record f e))
+    let w : t.header ≡ u.header = f.header ∙ ap (header_at a) z ∙ sym e.header in
+    ap (λ (n : ℕ). record_found n t.header) z ∙ ap (record_found u.start) w
+unique_record_at a k (Ok t) (Err s) f e = absurd (no_and_found f e)
+unique_record_at a k (Err r) (Ok t) f e = absurd (no_and_found e f)
+unique_record_at a k (Err r) (Err s) f e = ap Err (one_refusal r s (one_no_record f e))
 
 -- ---- the field queries
 one_denied : {a : List ℕ} {k n p m q : ℕ} {sort : Sort} → Denied a k sort n p → Denied a k sort m q → (n ≡ m) × (p ≡ q)
@@ -87,42 +88,42 @@ no_and_yes w (Q.Denied.faulty g) = not_clean g w.clean
 no_and_yes w (short c h) = omega (arith, w.come)
 no_and_yes w (not_a_field c h d) = d w.field
 
-pub unique_field_at : (a : List ℕ) (k : ℕ) (sort : Sort) (r s : FieldAnswer) → FieldIs a k sort r → FieldIs a k sort s → r ≡ s
-unique_field_at a k sort (F.Part i w) (F.Part j v) f e =
-    ap (λ (n : ℕ). F.Part n w) (f.start_is ∙ sym e.start_is) ∙ ap (F.Part j) (f.width_is ∙ sym e.width_is)
-unique_field_at a k sort (F.Part i w) (F.Refused s) f e = absurd (no_and_yes f.allowed e)
-unique_field_at a k sort (F.Refused r) (F.Part j v) f e = absurd (no_and_yes e.allowed f)
-unique_field_at a k sort (F.Refused r) (F.Refused s) f e = ap F.Refused (one_refusal r s (one_denied f e))
+pub unique_field_at : (a : List ℕ) (k : ℕ) (sort : Sort) (r s : Result Part Refusal) → FieldIs a k sort r → FieldIs a k sort s → r ≡ s
+unique_field_at a k sort (Ok t) (Ok u) f e =
+    ap (λ (n : ℕ). part_found n t.width) (f.start_is ∙ sym e.start_is) ∙ ap (part_found u.start) (f.width_is ∙ sym e.width_is)
+unique_field_at a k sort (Ok t) (Err s) f e = absurd (no_and_yes f.allowed e)
+unique_field_at a k sort (Err r) (Ok t) f e = absurd (no_and_yes e.allowed f)
+unique_field_at a k sort (Err r) (Err s) f e = ap Err (one_refusal r s (one_denied f e))
 
-pub unique_text_field : (a : List ℕ) (k : ℕ) (r s : FieldAnswer) → TextIs a k r → TextIs a k s → r ≡ s
+pub unique_text_field : (a : List ℕ) (k : ℕ) (r s : Result Part Refusal) → TextIs a k r → TextIs a k s → r ≡ s
 unique_text_field a k = unique_field_at a k Texts
 
-pub unique_number_field : (a : List ℕ) (k : ℕ) (r s : NumberAnswer) → NumberIs a k r → NumberIs a k s → r ≡ s
-unique_number_field a k (B.Number x) (B.Number y) f e = ap B.Number (f.1 ∙ sym e.1)
-unique_number_field a k (B.Number x) (B.Refused s) f e = absurd (no_and_yes f.0 e)
-unique_number_field a k (B.Refused r) (B.Number y) f e = absurd (no_and_yes e.0 f)
-unique_number_field a k (B.Refused r) (B.Refused s) f e = ap B.Refused (one_refusal r s (one_denied f e))
+pub unique_number_field : (a : List ℕ) (k : ℕ) (r s : Result (Option ℤ) Refusal) → NumberIs a k r → NumberIs a k s → r ≡ s
+unique_number_field a k (Ok x) (Ok y) f e = ap Ok (f.1 ∙ sym e.1)
+unique_number_field a k (Ok x) (Err s) f e = absurd (no_and_yes f.0 e)
+unique_number_field a k (Err r) (Ok y) f e = absurd (no_and_yes e.0 f)
+unique_number_field a k (Err r) (Err s) f e = ap Err (one_refusal r s (one_denied f e))
 
-pub unique_time_of : (a : List ℕ) (k : ℕ) (long : Bool) (r s : TimeAnswer) → TimeIs a k long r → TimeIs a k long s → r ≡ s
-unique_time_of a k long (T.Time x) (T.Time y) f e = ap T.Time (f.1 ∙ sym e.1)
-unique_time_of a k long (T.Time x) (T.Refused s) f e = absurd (no_and_yes f.0 e)
-unique_time_of a k long (T.Refused r) (T.Time y) f e = absurd (no_and_yes e.0 f)
-unique_time_of a k long (T.Refused r) (T.Refused s) f e = ap T.Refused (one_refusal r s (one_denied f e))
+pub unique_time_of : (a : List ℕ) (k : ℕ) (long : Bool) (r s : Result (Option Moment) Refusal) → TimeIs a k long r → TimeIs a k long s → r ≡ s
+unique_time_of a k long (Ok x) (Ok y) f e = ap Ok (f.1 ∙ sym e.1)
+unique_time_of a k long (Ok x) (Err s) f e = absurd (no_and_yes f.0 e)
+unique_time_of a k long (Err r) (Ok y) f e = absurd (no_and_yes e.0 f)
+unique_time_of a k long (Err r) (Err s) f e = ap Err (one_refusal r s (one_denied f e))
 
-pub unique_time_field : (a : List ℕ) (k : ℕ) (r s : TimeAnswer) → TimeIs a k false r → TimeIs a k false s → r ≡ s
+pub unique_time_field : (a : List ℕ) (k : ℕ) (r s : Result (Option Moment) Refusal) → TimeIs a k false r → TimeIs a k false s → r ≡ s
 unique_time_field a k = unique_time_of a k false
 
-pub unique_long_time_field : (a : List ℕ) (k : ℕ) (r s : TimeAnswer) → TimeIs a k true r → TimeIs a k true s → r ≡ s
+pub unique_long_time_field : (a : List ℕ) (k : ℕ) (r s : Result (Option Moment) Refusal) → TimeIs a k true r → TimeIs a k true s → r ≡ s
 unique_long_time_field a k = unique_time_of a k true
 
 -- ---- the ground point
-pub unique_ground_point : (a : List ℕ) (end : Bool) (r s : PointAnswer) → PointIs a end r → PointIs a end s → r ≡ s
-unique_ground_point a end (P.Point g) (P.Point h) f e = f.point ∙ sym e.point
-unique_ground_point a end (P.Point g) P.Missing f e = f.point ∙ sym e.point
-unique_ground_point a end (P.Point g) (P.Refused s) f e = absurd (no_and_yes f.allowed e)
-unique_ground_point a end P.Missing (P.Point h) f e = f.point ∙ sym e.point
-unique_ground_point a end P.Missing P.Missing f e = refl
-unique_ground_point a end P.Missing (P.Refused s) f e = absurd (no_and_yes f.allowed e)
-unique_ground_point a end (P.Refused r) (P.Point h) f e = absurd (no_and_yes e.allowed f)
-unique_ground_point a end (P.Refused r) P.Missing f e = absurd (no_and_yes e.allowed f)
-unique_ground_point a end (P.Refused r) (P.Refused s) f e = ap P.Refused (one_refusal r s (one_denied f e))
+pub unique_ground_point : (a : List ℕ) (end : Bool) (r s : Result (Option GroundPoint) Refusal) → PointIs a end r → PointIs a end s → r ≡ s
+unique_ground_point a end (Ok (Some g)) (Ok (Some h)) f e = f.point ∙ sym e.point
+unique_ground_point a end (Ok (Some g)) (Ok None) f e = f.point ∙ sym e.point
+unique_ground_point a end (Ok (Some g)) (Err s) f e = absurd (no_and_yes f.allowed e)
+unique_ground_point a end (Ok None) (Ok (Some h)) f e = f.point ∙ sym e.point
+unique_ground_point a end (Ok None) (Ok None) f e = refl
+unique_ground_point a end (Ok None) (Err s) f e = absurd (no_and_yes f.allowed e)
+unique_ground_point a end (Err r) (Ok (Some h)) f e = absurd (no_and_yes e.allowed f)
+unique_ground_point a end (Err r) (Ok None) f e = absurd (no_and_yes e.allowed f)
+unique_ground_point a end (Err r) (Err s) f e = ap Err (one_refusal r s (one_denied f e))

@@ -15,7 +15,7 @@ use lib.ListN.{length, get_or, take}
 use lib.Seq.{take_all, length-take-le, get_or-take}
 use borrow.Author.Tests.{le-leb, lt-leb, eq-eqb, eqb-true}
 use Rattle.calendar.specs.declared.Refusal.{Refusal}
-use Rattle.calendar.specs.Said.{Said, answer, refusal, refused}
+use Rattle.calendar.specs.Said.{Said, answer, refusal, refused, said}
 use Rattle.calendar.proofs.Range.{below, at}
 use Rattle.meter.specs.Integer.{be_at}
 use Rattle.meter.specs.Time.{is_time, time_at}
@@ -29,8 +29,11 @@ use Rattle.record.proofs.HeaderLaws.{is_header_lem}
 use Rattle.text.specs.Field.{is_x, spaces, is_number, integer_of, is_value, number_read_at}
 use Rattle.text.specs.declared.Kind.{Kind}
 use Rattle.text.specs.declared.Kind.TheVariants.{Text, Unsigned, Count, Signed, Time, LongTime}
-use Rattle.text.specs.declared.Number.{Number}
-use Rattle.text.specs.declared.Number.TheVariants as N
+use Rattle.std.specs.declared.option.Option.TheVariants.{Some, None}
+use Rattle.std.specs.declared.result.Result.TheVariants.{Ok, Err}
+use Rattle.std.specs.declared.option.Option.{Option}
+use Rattle.std.specs.declared.result.Result.{Result}
+use Rattle.meter.specs.declared.general.Moment.{Moment}
 use Rattle.text.proofs.Exact.{is_small}
 use Rattle.text.proofs.Meaning.{number_means, means_number}
 use Rattle.tables.specs.Lawful.{Same}
@@ -43,16 +46,11 @@ use Rattle.mphr.proofs.LayoutLaws.{start_72, start_next, start_mono}
 use Rattle.mphr.proofs.Export.{clean_fine, fine_valued}
 use Rattle.judge.specs.Table as J
 use Rattle.judge.specs.Table.{Site, site, first, class_at, size_at, Sound, Leads, here, on, next, one_more, unknown, bad_times as bad-times-at, main, Clean, Given, Open, Judged}
-use Rattle.query.specs.Query.{refusal_of, StartOf, Reachable, main_part, sort_of, times_of, sort_number, FieldOf, Denied, faulty, short, not_a_field, Allowed, value_start, PartIs, FieldIs, no_field, number_in, NumberIs, time_in, latitude_field, thousand, degrees, point_of, PointFound, PointIs, Exact}
+use Rattle.query.specs.Query.{refusal_of, StartOf, Reachable, main_part, sort_of, times_of, sort_number, FieldOf, Denied, faulty, short, not_a_field, Allowed, value_start, PartIs, number_in, NumberIs, time_in, TimeIs, latitude_field, thousand, degrees, Exact}
 use Rattle.judge.specs.declared.arrival.Arrival.{Arrival}
 use Rattle.judge.specs.declared.arrival.Arrival.TheVariants as A
 use Rattle.query.specs.declared.Sort.{Sort}
 use Rattle.query.specs.declared.Sort.TheVariants.{Numbers, Times, LongTimes, Texts}
-use Rattle.query.specs.declared.FieldAnswer.{FieldAnswer}
-use Rattle.query.specs.declared.NumberAnswer.{NumberAnswer}
-use Rattle.query.specs.declared.NumberAnswer.TheVariants as B
-use Rattle.query.specs.declared.PointAnswer.{PointAnswer}
-use Rattle.query.specs.declared.PointAnswer.TheVariants as P
 use Rattle.judge.proofs.WayLaws.{leads_le, counts, snoc, linear}
 use Rattle.judge.proofs.Covering.{clean_main}
 
@@ -69,7 +67,7 @@ handed {b} {j} {r} {x} e q g =
     let f : r ≡ x = q ∙ ap refusal_of e in
     rw f (rw e at g)
 
--- a number tells one sort
+-- ---- a number tells one sort
 abbrev sort_from : ℕ → Sort
 sort_from zero = Numbers
 sort_from (suc zero) = Times
@@ -122,9 +120,6 @@ pub walking_next : {a : List ℕ} {k n i z : ℕ} → Walking a k n i → n < k 
 walking_next {a} {k} {n} {i} w h e =
     let g = goes_count w.rest (omega (arith, w.asked.below)) in
     rw e (record { asked = w.asked; prev = class_at a i; tally = one_more w.tally (class_at a i); way = snoc w.way g.0; rest = g.1; upto = omega arith })
-
-pub walking_last : {a : List ℕ} {k n i : ℕ} → Walking a k n i → k ≤ n → StartOf a k i
-walking_last {n = n} {i = i} w h = inr (record { spot = site n i w.prev w.tally; way = w.way; numbered = omega (arith, w.upto); begins = refl })
 
 -- ---- the header of record k
 lead_at : (a : List ℕ) (i : ℕ) → is_class (class_at a i) && is_group (get_or a (i + 1) 0) ≡ true → 20 ≤ size_at a i → is_lead (get_or a i 0) (get_or a (i + 1) 0) (be_at a (i + 4) 4) ≡ true
@@ -239,9 +234,6 @@ start_small {k} h =
     let m : suc k ≤ 72 = omega arith in
     omega (arith, start_next k, start_mono m, start_72)
 
-pub denied_with : {a : List ℕ} {k : ℕ} {sort : Sort} {r : FieldAnswer} → r ≡ no_field → Denied a k sort 22 0 → FieldIs a k sort r
-denied_with e d = rw e d
-
 -- ---- the value of a field that may be read
 module _ {a : List ℕ} {k : ℕ} {sort : Sort} (w : Allowed a k sort) where
   value_here : is_value (kind_of k) a (value_start k) (width_of k) ≡ true
@@ -298,13 +290,17 @@ x_or true y e = refl
 x_or false y (inl e) = e
 x_or false y (inr e) = absurd (true≢false (sym e))
 
-pub number_read : {a : List ℕ} {k i w : ℕ} → PartIs a k Numbers i w → number_read_at true w a i ≡ answer (number_in a k)
+number_read : {a : List ℕ} {k i w : ℕ} → PartIs a k Numbers i w → number_read_at true w a i ≡ answer (number_in a k)
 number_read {a} {k} p =
     let al = p.allowed in
     let i = value_start k in
     let w = width_of k in
     rw (p.start_is, p.width_is)
     (rw (le-leb (i + w) (length a) (value_come al), le-leb w 17 (omega (arith, number_narrow k al.field)), x_or (is_x a i w) (is_number true a i w) (number_or_x (kind_of k) a i w al.field.sorted (value_here al))))
+
+pub number_told : {a : List ℕ} {k i w : ℕ} (r : Result (Option ℤ) Refusal) → PartIs a k Numbers i w → said r ≡ number_read_at true w a i → NumberIs a k r
+number_told (Ok x) p e = (p.allowed, same_answer (e ∙ number_read p))
+number_told (Err r) p e = absurd (no_answer (e ∙ number_read p))
 
 time_value : (d : Kind) (long : Bool) (a : List ℕ) (i w : ℕ) → sort_of d ≡ times_of long → is_value d a i w ≡ true → (w ≡ digits_of long + 1) × (is_general (digits_of long) a i ≡ true)
 unfolding is_value
@@ -328,6 +324,10 @@ time_read {a} {k} long p =
     rw p.start_is
     (rw (le-leb (value_start k + (digits_of long + 1)) (length a) (omega (arith, v.0, value_come al)), v.1))
 
+pub time_told : {a : List ℕ} {k i w : ℕ} (long : Bool) (r : Result (Option Moment) Refusal) → PartIs a k (times_of long) i w → said r ≡ general_read_at long a i → TimeIs a k long r
+time_told long (Ok x) p e = (p.allowed, same_answer (e ∙ time_read long p))
+time_told long (Err r) p e = absurd (no_answer (e ∙ time_read long p))
+
 -- ---- a number's field is exact in f64
 minus_size : (n : ℕ) → nat_abs (neg_ℤ (pos n)) ≡ n
 minus_size zero = refl
@@ -346,23 +346,14 @@ number_exact {a} {k} al = go (is_x a i w) refl (number_or_x (kind_of k) a i w al
     w : ℕ
     w = width_of k
 
-    go : (b : Bool) → is_x a i w ≡ b → (is_number true a i w ≡ true) ⊎ (is_x a i w ≡ true) → Exact (cond b N.Undefined (N.Whole (integer_of a i w)))
+    go : (b : Bool) → is_x a i w ≡ b → (is_number true a i w ≡ true) ⊎ (is_x a i w ≡ true) → Exact (cond b None (Some (integer_of a i w)))
     go true e v = tt
     go false e (inr x) = absurd (true≢false (sym x ∙ e))
     go false e (inl n) = omega (arith, sign_size (eqb (get_or a (i + spaces a i w) 0) 45) (number_of a i w), is_small true a i w n, pow-le-pow_right {n = 10} (lit< tt) {i = w} {j = 11} (number_narrow k al.field))
 
 -- ---- the code's names
-pub judged_at : {b d : List ℕ} {q r : Arrival} → b ≡ d → q ≡ r → Judged b q → Judged d r
-judged_at e f j = rw (e, f) at j
-
 pub short_at : {a : List ℕ} {k n : ℕ} {sort : Sort} → n ≡ length a → Clean (main_part a) → n < 3307 → Denied a k sort 17 n
 short_at e c h = let l = rw e at h in rw e (short c l)
-
-pub field_sort : (a : List ℕ) (k : ℕ) {s t : Sort} {q r : FieldAnswer} → s ≡ t → q ≡ r → FieldIs a k s q → FieldIs a k t r
-field_sort a k e f h = rw (e, f) at h
-
-pub number_at : (a : List ℕ) {k l : ℕ} {q r : NumberAnswer} → k ≡ l → q ≡ r → NumberIs a k q → NumberIs a l r
-number_at a e f h = rw (e, f) at h
 
 -- ---- the ground point
 -- ONE ROUNDING: the float that stands for a thousand is one thousand, so degrees are the exact fraction, rounded once
@@ -378,14 +369,8 @@ pub latitude_small : (end : Bool) → latitude_field end ≤ 51
 latitude_small true = omega arith
 latitude_small false = omega arith
 
-pub exact_whole : {x : Number} {z : ℤ} → x ≡ N.Whole z → Exact x → nat_abs z ≤ 2 ^ 53
-exact_whole e h = rw e at h
-
-pub number_is_exact : {a : List ℕ} {k : ℕ} {x : Number} → NumberIs a k (B.Number x) → Exact x
+pub number_is_exact : {a : List ℕ} {k : ℕ} {x : Option ℤ} → NumberIs a k (Ok x) → Exact x
 number_is_exact n = rw n.1 (number_exact n.0)
-
-pub point_whole : {p q : Number} {y x u v : ℤ} → p ≡ N.Whole y → q ≡ N.Whole x → u ≡ y → v ≡ x → ◌≡◌ {A = PointAnswer} (P.Point (record { latitude = degrees u; longitude = degrees v })) (point_of p q)
-point_whole e f g h = rw (e, f, g, h)
 
 there : (end : Bool) → FieldOf (latitude_field end + 1) Numbers
 unfolding kind_of kinds fields
@@ -396,19 +381,3 @@ pub denied_both : {a : List ℕ} {n p : ℕ} (end : Bool) → Denied a (latitude
 denied_both end (faulty g) = faulty g
 denied_both end (short c h) = short c h
 denied_both end (not_a_field c h d) = absurd (d (there end))
-
-found : {a : List ℕ} {end : Bool} (r : PointAnswer) → PointFound a end r → ((x : Refusal) → r ≡ P.Refused x → ⊥) → PointIs a end r
-found (P.Point g) f n = f
-found P.Missing f n = f
-found (P.Refused x) f n = absurd (n x refl)
-
-never_refused : (p q : Number) (x : Refusal) → point_of p q ≡ P.Refused x → ⊥
-never_refused N.Undefined q x e = let z : ◌≡◌ {A = ℕ} 0 1 = cc in omega arith
-never_refused (N.Whole y) N.Undefined x e = let z : ◌≡◌ {A = ℕ} 0 1 = cc in omega arith
-never_refused (N.Whole y) (N.Whole v) x e = let z : ◌≡◌ {A = ℕ} 0 1 = cc in omega arith
-
-pub point_is : {a : List ℕ} (end : Bool) {p q : Number} {r : PointAnswer} → NumberIs a (latitude_field end) (B.Number p) → NumberIs a (latitude_field end + 1) (B.Number q) → r ≡ point_of p q → PointIs a end r
-point_is {a} end {p} {q} {r} n m e =
-    found r
-    (record { allowed = n.0; point = e ∙ ap (λ (x : Number). point_of x q) n.1 ∙ ap (point_of (number_in a (latitude_field end))) m.1 })
-    (λ x f. never_refused p q x (sym e ∙ f))

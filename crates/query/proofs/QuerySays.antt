@@ -10,11 +10,13 @@ use Rattle.record.specs.Header.{header_at}
 use Rattle.judge.specs.Table.{Open}
 use Rattle.finish.specs.Rows.{start_of}
 use Rattle.finish.specs.Finish.{FinishedIs}
-use Rattle.finish.specs.declared.Finished.TheVariants.{Accepted}
+use Rattle.std.specs.declared.result.Result.TheVariants.{Ok}
+use Rattle.std.specs.declared.result.Result.{Result}
+use Rattle.calendar.specs.declared.Refusal.{Refusal}
+use Rattle.query.specs.declared.Record.{Record}
+use Rattle.query.specs.Found.{record_found}
 use Rattle.demands.specs.Demands.{start}
 use Rattle.query.specs.Query.{StartOf, RecordIs}
-use Rattle.query.specs.declared.RecordAnswer.{RecordAnswer}
-use Rattle.query.specs.declared.RecordAnswer.TheVariants.{Record}
 use Rattle.demands.proofs.Counting.{later, ends_whole, indexed}
 use Rattle.query.proofs.QueryDetermined.{unique_record_at}
 
@@ -29,10 +31,10 @@ abbrev row_start : List (List ℕ) → ℕ → ℕ
 row_start rows k = start_of (get_or rows k [])
 
 pub query_says :
-    {a : List ℕ} {rows rows' : List (List ℕ)} {c : ℕ} → FinishedIs a rows (Accepted c) rows' → (k : ℕ) → k < c → (r : RecordAnswer) → RecordIs a k r
-    → r ≡ Record (row_start rows' k) (header_at a (row_start rows' k))
+    {a : List ℕ} {rows rows' : List (List ℕ)} {c : ℕ} → FinishedIs a rows (Ok c) rows' → (k : ℕ) → k < c → (r : Result Record Refusal) → RecordIs a k r
+    → r ≡ record_found (row_start rows' k) (header_at a (row_start rows' k))
 query_says {a} {rows' = rows'} {c = c} f k h r q =
     let v = f.filled.covered in
     let o = ends_whole f.complete v in
-    unique_record_at a k r (Record (row_start rows' k) (header_at a (row_start rows' k))) q
+    unique_record_at a k r (record_found (row_start rows' k) (header_at a (row_start rows' k))) q
     (record { count = c; end = v.last.at; waiting = o; below = h; start = rw (indexed f.complete f.filled k h) (started o k h); header = refl })

@@ -7,30 +7,25 @@ use Rattle.std.specs.Float.Ieee.{div, of_int, of_bits}
 use Rattle.calendar.specs.declared.Refusal.{Refusal}
 use Rattle.calendar.specs.Said.{refusing}
 use Rattle.meter.specs.General.{digits_of, general_at}
-use Rattle.meter.specs.declared.general.General.{General}
+use Rattle.std.specs.declared.option.Option.TheVariants.{Some, None}
+use Rattle.std.specs.declared.result.Result.TheVariants.{Ok, Err}
+use Rattle.std.specs.declared.option.Option.{Option}
+use Rattle.std.specs.declared.result.Result.{Result}
+use Rattle.meter.specs.declared.general.Moment.{Moment}
+use Rattle.query.specs.declared.GroundPoint.{GroundPoint}
+use Rattle.query.specs.declared.Record.{Record}
+use Rattle.query.specs.declared.Part.{Part}
 use Rattle.record.specs.Header.{header_at}
 use Rattle.record.specs.declared.header.Header.{Header}
 use Rattle.text.specs.Field.{number_at}
 use Rattle.text.specs.declared.Kind.{Kind}
 use Rattle.text.specs.declared.Kind.TheVariants.{Text, Unsigned, Count, Signed, Time, LongTime}
-use Rattle.text.specs.declared.Number.{Number}
-use Rattle.text.specs.declared.Number.TheVariants as N
 use Rattle.mphr.specs.Layout.{width_of, kind_of, line_start}
 use Rattle.judge.specs.Table.{Site, first, Leads, Clean, Given, Whole, Open}
 use Rattle.judge.specs.declared.arrival.Arrival.{Arrival}
 use Rattle.judge.specs.declared.arrival.Arrival.TheVariants as A
 use Rattle.query.specs.declared.Sort.{Sort}
 use Rattle.query.specs.declared.Sort.TheVariants.{Numbers, Times, LongTimes, Texts}
-use Rattle.query.specs.declared.RecordAnswer.{RecordAnswer}
-use Rattle.query.specs.declared.RecordAnswer.TheVariants as R
-use Rattle.query.specs.declared.FieldAnswer.{FieldAnswer}
-use Rattle.query.specs.declared.FieldAnswer.TheVariants as F
-use Rattle.query.specs.declared.NumberAnswer.{NumberAnswer}
-use Rattle.query.specs.declared.NumberAnswer.TheVariants as B
-use Rattle.query.specs.declared.TimeAnswer.{TimeAnswer}
-use Rattle.query.specs.declared.TimeAnswer.TheVariants as T
-use Rattle.query.specs.declared.PointAnswer.{PointAnswer}
-use Rattle.query.specs.declared.PointAnswer.TheVariants as P
 
 -- the refusal of an arrival that is refused; it is asked of no other
 abbrev pub refusal_of : Arrival → Refusal
@@ -63,9 +58,9 @@ pub data NoRecord (a : List ℕ) (k : ℕ) : ℕ → ℕ → Type 0 where
   faulty : {n p : ℕ} → Given a n p → NoRecord a k n p
   not_yet : {c e : ℕ} → Open a c e → c ≤ k → NoRecord a k 19 c
 
-abbrev pub RecordIs : List ℕ → ℕ → RecordAnswer → Type 0
-RecordIs a k (R.Record i h) = RecordFound a k i h
-RecordIs a k (R.Refused r) = NoRecord a k r.number r.place
+abbrev pub RecordIs : List ℕ → ℕ → Result Record Refusal → Type 0
+RecordIs a k (Ok t) = RecordFound a k t.start t.header
+RecordIs a k (Err r) = NoRecord a k r.number r.place
 
 -- what the walk to record k asks
 pub record Reachable (a : List ℕ) (k : ℕ) : Type 0 where
@@ -91,7 +86,7 @@ sort_of Text = Texts
 abbrev pub times_of : Bool → Sort
 times_of long = cond long LongTimes Times
 
--- a number to each sort, by which the code tells them apart
+-- a number to each sort, by which proofs tell them apart
 abbrev pub sort_number : Sort → ℕ
 sort_number Numbers = 0
 sort_number Times = 1
@@ -132,32 +127,29 @@ pub record PartIs (a : List ℕ) (k : ℕ) (sort : Sort) (i w : ℕ) : Type 0 wh
   pub start_is : i ≡ value_start k
   pub width_is : w ≡ width_of k
 
-abbrev pub FieldIs : List ℕ → ℕ → Sort → FieldAnswer → Type 0
-FieldIs a k sort (F.Part i w) = PartIs a k sort i w
-FieldIs a k sort (F.Refused r) = Denied a k sort r.number r.place
+abbrev pub FieldIs : List ℕ → ℕ → Sort → Result Part Refusal → Type 0
+FieldIs a k sort (Ok t) = PartIs a k sort t.start t.width
+FieldIs a k sort (Err r) = Denied a k sort r.number r.place
 
 -- where the text of field k stands
-abbrev pub TextIs : List ℕ → ℕ → FieldAnswer → Type 0
+abbrev pub TextIs : List ℕ → ℕ → Result Part Refusal → Type 0
 TextIs a k r = FieldIs a k Texts r
 
-abbrev pub no_field : FieldAnswer
-no_field = F.Refused (refusing 22 0)
-
 -- the number of field k
-abbrev pub number_in : List ℕ → ℕ → Number
+abbrev pub number_in : List ℕ → ℕ → Option ℤ
 number_in a k = number_at a (value_start k) (width_of k)
 
-abbrev pub NumberIs : List ℕ → ℕ → NumberAnswer → Type 0
-NumberIs a k (B.Number x) = Allowed a k Numbers × (x ≡ number_in a k)
-NumberIs a k (B.Refused r) = Denied a k Numbers r.number r.place
+abbrev pub NumberIs : List ℕ → ℕ → Result (Option ℤ) Refusal → Type 0
+NumberIs a k (Ok x) = Allowed a k Numbers × (x ≡ number_in a k)
+NumberIs a k (Err r) = Denied a k Numbers r.number r.place
 
 -- the time of field k
-abbrev pub time_in : List ℕ → ℕ → Bool → General
+abbrev pub time_in : List ℕ → ℕ → Bool → Option Moment
 time_in a k long = general_at (digits_of long) a (value_start k)
 
-abbrev pub TimeIs : List ℕ → ℕ → Bool → TimeAnswer → Type 0
-TimeIs a k long (T.Time x) = Allowed a k (times_of long) × (x ≡ time_in a k long)
-TimeIs a k long (T.Refused r) = Denied a k (times_of long) r.number r.place
+abbrev pub TimeIs : List ℕ → ℕ → Bool → Result (Option Moment) Refusal → Type 0
+TimeIs a k long (Ok x) = Allowed a k (times_of long) × (x ≡ time_in a k long)
+TimeIs a k long (Err r) = Denied a k (times_of long) r.number r.place
 
 -- ---- THE GROUND POINT, of the start or of the end (01, "MPHR": "SUBSAT latitudes and longitudes are thousandths of a degree. A ground point
 -- carries both as f64, each one float division by 1000; if either field is undefined, the point is missing")
@@ -171,21 +163,21 @@ thousand = of_bits binary64 0x408f_4000_0000_0000
 abbrev pub degrees : ℤ → Float
 degrees z = div binary64 (of_int binary64 z) thousand
 
-abbrev pub point_of : Number → Number → PointAnswer
-point_of N.Undefined y = P.Missing
-point_of (N.Whole x) N.Undefined = P.Missing
-point_of (N.Whole x) (N.Whole y) = P.Point (record { latitude = degrees x; longitude = degrees y })
+abbrev pub point_of : Option ℤ → Option ℤ → Result (Option GroundPoint) Refusal
+point_of None y = (Ok None)
+point_of (Some x) None = (Ok None)
+point_of (Some x) (Some y) = Ok (Some (record { latitude = degrees x; longitude = degrees y }))
 
-pub record PointFound (a : List ℕ) (end : Bool) (r : PointAnswer) : Type 0 where
+pub record PointFound (a : List ℕ) (end : Bool) (r : Result (Option GroundPoint) Refusal) : Type 0 where
   pub allowed : Allowed a (latitude_field end) Numbers
   pub point : r ≡ point_of (number_in a (latitude_field end)) (number_in a (latitude_field end + 1))
 
-abbrev pub PointIs : List ℕ → Bool → PointAnswer → Type 0
-PointIs a end (P.Point g) = PointFound a end (P.Point g)
-PointIs a end P.Missing = PointFound a end P.Missing
-PointIs a end (P.Refused r) = Denied a (latitude_field end) Numbers r.number r.place
+abbrev pub PointIs : List ℕ → Bool → Result (Option GroundPoint) Refusal → Type 0
+PointIs a end (Ok (Some g)) = PointFound a end (Ok (Some g))
+PointIs a end (Ok None) = PointFound a end (Ok None)
+PointIs a end (Err r) = Denied a (latitude_field end) Numbers r.number r.place
 
 -- a number that f64 holds exactly
-abbrev pub Exact : Number → Type 0
-Exact N.Undefined = Unit
-Exact (N.Whole z) = nat_abs z ≤ 0x20_0000_0000_0000
+abbrev pub Exact : Option ℤ → Type 0
+Exact None = Unit
+Exact (Some z) = nat_abs z ≤ 0x20_0000_0000_0000

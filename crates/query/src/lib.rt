@@ -1,40 +1,27 @@
 // Queries of a product, arriving or whole: a record by its number, a field of the main header by its number, the ground point.
 #![tactic(auto)]
 
-ghost use Rattle.std.specs.Prelude.{◌≡◌, true, false, ◌+◌, ◌≤◌, ◌<◌, length};
-ghost use Rattle.query.specs.Query.{refusal_of, StartOf, RecordIs, Reachable, sort_of, times_of, sort_number, no_field, FieldIs, TextIs};
+ghost use Rattle.std.specs.Prelude.{◌≡◌, true, false, Ok};
+ghost use Rattle.query.specs.Query.{refusal_of, StartOf, RecordIs, Reachable, sort_of, times_of, FieldIs, TextIs};
 ghost use Rattle.query.specs.Query.{NumberIs, TimeIs, latitude_field, point_of, PointIs, Exact};
 
-use calendar::Refusal;
+use calendar::{Refusal, fault};
 use judge::arrival::{Arrival, judge_arrival};
-use meter::general::{General, GeneralRead};
-use mphr::layout::FieldPlace;
-use record::header::{Header, HeaderRead, size_at};
-use text::{Kind, Number, NumberRead};
+use meter::general::Moment;
+use record::header::{Header, size_at};
+use text::Kind;
 
 #[derive(Clone, Copy)]
-pub enum RecordAnswer {
-    Record { start: usize, header: Header },
-    Refused(Refusal),
+pub struct Record {
+    pub start: usize,
+    pub header: Header,
 }
 
 // Where the value of a field stands.
 #[derive(Clone, Copy)]
-pub enum FieldAnswer {
-    Part { start: usize, width: usize },
-    Refused(Refusal),
-}
-
-#[derive(Clone, Copy)]
-pub enum NumberAnswer {
-    Number(Number),
-    Refused(Refusal),
-}
-
-#[derive(Clone, Copy)]
-pub enum TimeAnswer {
-    Time(General),
-    Refused(Refusal),
+pub struct Part {
+    pub start: usize,
+    pub width: usize,
 }
 
 // Degrees, north and east.
@@ -44,15 +31,8 @@ pub struct GroundPoint {
     pub longitude: f64,
 }
 
-#[derive(Clone, Copy)]
-pub enum PointAnswer {
-    Point(GroundPoint),
-    Missing,
-    Refused(Refusal),
-}
-
 // The sorts of fields; a number may have a sign or not.
-#[derive(Clone, Copy)]
+#[derive(Clone, Copy, PartialEq, Eq)]
 enum Sort {
     Numbers,
     Times,
@@ -81,116 +61,76 @@ fn start_of(s: &[u8], k: usize) -> usize
     if k == 0 {
         return 0;
     }
-    let mut n: usize = 1;
     let mut at: usize = 3307;
-    while n < k {
+    for _n in 1..k {
         at += size_at(s, at);
-        n += 1;
     }
     at
 }
 
 // The start and the header of record k.
-pub fn record_at(bytes: &[u8], k: usize) -> RecordAnswer
+pub fn record_at(bytes: &[u8], k: usize) -> Result<Record, Refusal>
     ensures { RecordIs bytes.now k result }
 {
     let judged = judge_arrival(bytes);
     let Arrival::Waiting { count, end: _ } = judged else {
-        return RecordAnswer::Refused(refusal_of(judged));
+        return Err(refusal_of(judged));
     };
     if count <= k {
-        return RecordAnswer::Refused(Refusal {
-            number: 19,
+        return Err(Refusal {
+            number: fault::NO_RECORD,
             place: count,
         });
     }
     let start = start_of(bytes, k);
-    match record::header::read_header(bytes, start) {
-        HeaderRead::Header(header) => RecordAnswer::Record { start, header },
-        HeaderRead::Refused(r) => RecordAnswer::Refused(r),
-    }
+    let header = record::header::read_header(bytes, start)?;
+    Ok(Record { start, header })
 }
 
 fn sort_of(kind: Kind) -> Sort
     ensures { result ≡ sort_of kind }
 {
     match kind {
-        Kind::Unsigned => Sort::Numbers,
-        Kind::Count => Sort::Numbers,
-        Kind::Signed => Sort::Numbers,
+        Kind::Unsigned | Kind::Count | Kind::Signed => Sort::Numbers,
         Kind::Time => Sort::Times,
         Kind::LongTime => Sort::LongTimes,
         Kind::Text => Sort::Texts,
     }
 }
 
-fn sort_number(sort: Sort) -> u8
-    ensures { result ≡ sort_number sort }
-{
-    match sort {
-        Sort::Numbers => 0,
-        Sort::Times => 1,
-        Sort::LongTimes => 2,
-        Sort::Texts => 3,
-    }
-}
-
-// How much of the main header has come.
-fn main_come(len: usize) -> usize
-    ensures { (result ≤ len) × (result ≤ 3307) × (result < 3307 → result ≡ len) }
-{
-    if len < 3307 { len } else { 3307 }
-}
-
-fn no_field() -> FieldAnswer
-    ensures { result ≡ no_field }
-{
-    FieldAnswer::Refused(Refusal {
-        number: 22,
-        place: 0,
-    })
-}
-
 // The part of a field of the sort: the judge's refusal of the main header's bytes, then 17, then 22.
-fn field_at(bytes: &[u8], k: usize, sort: Sort) -> FieldAnswer
+fn field_at(bytes: &[u8], k: usize, sort: Sort) -> Result<Part, Refusal>
     ensures { FieldIs bytes.now k sort result }
 {
-    let n = main_come(bytes.len());
+    let n = bytes.len().min(3307);
     let judged = judge_arrival(&bytes[..n]);
     let Arrival::Waiting { count: _, end: _ } = judged else {
-        return FieldAnswer::Refused(refusal_of(judged));
+        return Err(refusal_of(judged));
     };
     if n < 3307 {
-        return FieldAnswer::Refused(Refusal {
-            number: 17,
+        return Err(Refusal {
+            number: fault::UNFINISHED,
             place: n,
         });
     }
-    let FieldPlace::Place(place) = mphr::layout::field_place(k) else {
-        return no_field();
-    };
-    let kind = place.kind;
-    if sort_number(sort_of(kind)) != sort_number(sort) {
-        return no_field();
-    }
-    let start = place.start + 32;
-    FieldAnswer::Part {
-        start,
-        width: place.width,
+    match mphr::layout::field_place(k) {
+        Ok(place) if sort_of(place.kind) == sort => Ok(Part {
+            start: place.start + 32,
+            width: place.width,
+        }),
+        _ => Err(Refusal {
+            number: fault::NO_FIELD,
+            place: 0,
+        }),
     }
 }
 
 // The number of field k. A field that the judge let pass has a sign only where it may, so one reading serves the three kinds.
-pub fn number_field(bytes: &[u8], k: usize) -> NumberAnswer
+pub fn number_field(bytes: &[u8], k: usize) -> Result<Option<i64>, Refusal>
     ensures { NumberIs bytes.now k result }
 {
-    match field_at(bytes, k, Sort::Numbers) {
-        FieldAnswer::Refused(r) => NumberAnswer::Refused(r),
-        FieldAnswer::Part { start, width } => match text::read_number(bytes, start, width, true) {
-            NumberRead::Number(x) => NumberAnswer::Number(x),
-            NumberRead::Refused(r) => NumberAnswer::Refused(r),
-        },
-    }
+    let part = field_at(bytes, k, Sort::Numbers)?;
+    text::read_number(bytes, part.start, part.width, true)
 }
 
 fn times_of(long: bool) -> Sort
@@ -199,58 +139,44 @@ fn times_of(long: bool) -> Sort
     if long { Sort::LongTimes } else { Sort::Times }
 }
 
-fn time_of(bytes: &[u8], k: usize, long: bool) -> TimeAnswer
+fn time_of(bytes: &[u8], k: usize, long: bool) -> Result<Option<Moment>, Refusal>
     ensures { TimeIs bytes.now k long result }
 {
-    match field_at(bytes, k, times_of(long)) {
-        FieldAnswer::Refused(r) => TimeAnswer::Refused(r),
-        FieldAnswer::Part { start, width: _ } => match meter::general::read_general(
-            bytes, start, long,
-        ) {
-            GeneralRead::Time(x) => TimeAnswer::Time(x),
-            GeneralRead::Refused(r) => TimeAnswer::Refused(r),
-        },
-    }
+    let part = field_at(bytes, k, times_of(long))?;
+    meter::general::read_general(bytes, part.start, long)
 }
 
 // The time of field k.
-pub fn time_field(bytes: &[u8], k: usize) -> TimeAnswer
+pub fn time_field(bytes: &[u8], k: usize) -> Result<Option<Moment>, Refusal>
     ensures { TimeIs bytes.now k false result }
 {
     time_of(bytes, k, false)
 }
 
 // The long time of field k.
-pub fn long_time_field(bytes: &[u8], k: usize) -> TimeAnswer
+pub fn long_time_field(bytes: &[u8], k: usize) -> Result<Option<Moment>, Refusal>
     ensures { TimeIs bytes.now k true result }
 {
     time_of(bytes, k, true)
 }
 
 // Where the text of field k stands.
-pub fn text_field(bytes: &[u8], k: usize) -> FieldAnswer
+pub fn text_field(bytes: &[u8], k: usize) -> Result<Part, Refusal>
     ensures { TextIs bytes.now k result }
 {
     field_at(bytes, k, Sort::Texts)
 }
 
-fn point_of(latitude: Number, longitude: Number) -> PointAnswer
+fn point_of(latitude: Option<i64>, longitude: Option<i64>) -> Option<GroundPoint>
     requires { Exact latitude × Exact longitude }
-    ensures { result ≡ point_of latitude longitude }
+    ensures { Ok result ≡ point_of latitude longitude }
 {
-    match latitude {
-        Number::Undefined => PointAnswer::Missing,
-        Number::Whole(y) => match longitude {
-            Number::Undefined => PointAnswer::Missing,
-            Number::Whole(x) => {
-                let north = (y as f64) / 1000.0;
-                let east = (x as f64) / 1000.0;
-                PointAnswer::Point(GroundPoint {
-                    latitude: north,
-                    longitude: east,
-                })
-            }
-        },
+    match (latitude, longitude) {
+        (Some(north), Some(east)) => Some(GroundPoint {
+            latitude: (north as f64) / 1000.0,
+            longitude: (east as f64) / 1000.0,
+        }),
+        _ => None,
     }
 }
 
@@ -262,15 +188,11 @@ fn latitude_of(end: bool) -> usize
 }
 
 // The point below the satellite where the product starts, or where it ends.
-pub fn ground_point(bytes: &[u8], end: bool) -> PointAnswer
+pub fn ground_point(bytes: &[u8], end: bool) -> Result<Option<GroundPoint>, Refusal>
     ensures { PointIs bytes.now end result }
 {
     let k = latitude_of(end);
-    match number_field(bytes, k) {
-        NumberAnswer::Refused(r) => PointAnswer::Refused(r),
-        NumberAnswer::Number(latitude) => match number_field(bytes, k + 1) {
-            NumberAnswer::Refused(r) => PointAnswer::Refused(r),
-            NumberAnswer::Number(longitude) => point_of(latitude, longitude),
-        },
-    }
+    let latitude = number_field(bytes, k)?;
+    let longitude = number_field(bytes, k + 1)?;
+    Ok(point_of(latitude, longitude))
 }

@@ -6,42 +6,41 @@ use mathlib.Core.List.{List}
 use Prim.Native.Nat.{ℕ}
 use Rattle.calendar.specs.Said.{Said, answer, refusal, refusing}
 use Rattle.calendar.proofs.Determined.{fixes, only}
-use Rattle.meter.specs.declared.integer.Written.{Written}
+use Rattle.std.specs.declared.result.Result.TheVariants.{Ok, Err}
+use Rattle.std.specs.declared.result.Result.{Result}
+use Rattle.calendar.specs.declared.Refusal.{Refusal}
+use Rattle.calendar.specs.Said.{said}
 use Rattle.meter.proofs.Determined.{one_writing}
-use Rattle.record.specs.Header.{size_there, is_class, is_group, is_header, header_read_at, said_header, put_header, WritesHeader}
-use Rattle.record.specs.Pointer.{is_pointer, pointer_read_at, said_pointer, put_pointer, WritesPointer}
+use Rattle.record.specs.Header.{size_there, is_class, is_group, is_header, header_read_at, put_header, WritesHeader}
+use Rattle.record.specs.Pointer.{is_pointer, pointer_read_at, put_pointer, WritesPointer}
 use Rattle.record.specs.Follow.{may_follow}
 use Rattle.record.specs.Times.{times_stand}
 use Rattle.record.specs.declared.header.Header.{Header}
-use Rattle.record.specs.declared.header.HeaderRead.{HeaderRead}
-use Rattle.record.specs.declared.header.HeaderRead.TheVariants as H
 use Rattle.record.specs.declared.pointer.Pointer.{Pointer}
-use Rattle.record.specs.declared.pointer.PointerRead.{PointerRead}
-use Rattle.record.specs.declared.pointer.PointerRead.TheVariants as P
 
 -- ---- each answer is made again from what it says
-abbrev unsaid_header : Said Header → HeaderRead
-unsaid_header (answer x) = H.Header x
-unsaid_header (refusal n p) = H.Refused (refusing n p)
+abbrev unsaid_header : Said Header → Result Header Refusal
+unsaid_header (answer x) = Ok x
+unsaid_header (refusal n p) = Err (refusing n p)
 
-header_unsaid : (r : HeaderRead) → unsaid_header (said_header r) ≡ r
-header_unsaid (H.Header x) = refl
-header_unsaid (H.Refused r) = refl
+header_unsaid : (r : Result Header Refusal) → unsaid_header (said r) ≡ r
+header_unsaid (Ok x) = refl
+header_unsaid (Err r) = refl
 
-abbrev unsaid_pointer : Said Pointer → PointerRead
-unsaid_pointer (answer x) = P.Pointer x
-unsaid_pointer (refusal n p) = P.Refused (refusing n p)
+abbrev unsaid_pointer : Said Pointer → Result Pointer Refusal
+unsaid_pointer (answer x) = Ok x
+unsaid_pointer (refusal n p) = Err (refusing n p)
 
-pointer_unsaid : (r : PointerRead) → unsaid_pointer (said_pointer r) ≡ r
-pointer_unsaid (P.Pointer x) = refl
-pointer_unsaid (P.Refused r) = refl
+pointer_unsaid : (r : Result Pointer Refusal) → unsaid_pointer (said r) ≡ r
+pointer_unsaid (Ok x) = refl
+pointer_unsaid (Err r) = refl
 
 -- ---- the readers, the tests and the follow rule
-pub unique_read_header : (a : List ℕ) (at : ℕ) (r s : HeaderRead) → said_header r ≡ header_read_at a at → said_header s ≡ header_read_at a at → r ≡ s
-unique_read_header a at = fixes said_header unsaid_header header_unsaid (header_read_at a at)
+pub unique_read_header : (a : List ℕ) (at : ℕ) (r s : Result Header Refusal) → said r ≡ header_read_at a at → said s ≡ header_read_at a at → r ≡ s
+unique_read_header a at = fixes said unsaid_header header_unsaid (header_read_at a at)
 
-pub unique_read_pointer : (a : List ℕ) (at : ℕ) (r s : PointerRead) → said_pointer r ≡ pointer_read_at a at → said_pointer s ≡ pointer_read_at a at → r ≡ s
-unique_read_pointer a at = fixes said_pointer unsaid_pointer pointer_unsaid (pointer_read_at a at)
+pub unique_read_pointer : (a : List ℕ) (at : ℕ) (r s : Result Pointer Refusal) → said r ≡ pointer_read_at a at → said s ≡ pointer_read_at a at → r ≡ s
+unique_read_pointer a at = fixes said unsaid_pointer pointer_unsaid (pointer_read_at a at)
 
 pub unique_may_follow : (last next : ℕ) (r s : Bool) → r ≡ may_follow last next → s ≡ may_follow last next → r ≡ s
 unique_may_follow last next = only (may_follow last next)
@@ -59,8 +58,8 @@ pub unique_times_stand : (a : List ℕ) (at : ℕ) (r s : Bool) → r ≡ times_
 unique_times_stand a at = only (times_stand a at)
 
 -- ---- the writers: of a room, the answer and the room at exit
-pub unique_write_header : (room : List ℕ) (h : Header) (r s : Written) (p q : List ℕ) → WritesHeader room h r p → WritesHeader room h s q → (r ≡ s) × (p ≡ q)
+pub unique_write_header : (room : List ℕ) (h : Header) (r s : Result ℕ Refusal) (p q : List ℕ) → WritesHeader room h r p → WritesHeader room h s q → (r ≡ s) × (p ≡ q)
 unique_write_header room h = one_writing room 20 (is_header h) (put_header room h)
 
-pub unique_write_pointer : (room : List ℕ) (t : Pointer) (r s : Written) (p q : List ℕ) → WritesPointer room t r p → WritesPointer room t s q → (r ≡ s) × (p ≡ q)
+pub unique_write_pointer : (room : List ℕ) (t : Pointer) (r s : Result ℕ Refusal) (p q : List ℕ) → WritesPointer room t r p → WritesPointer room t s q → (r ≡ s) × (p ≡ q)
 unique_write_pointer room t = one_writing room 27 (is_pointer t) (put_pointer room t)

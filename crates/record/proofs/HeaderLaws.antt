@@ -7,11 +7,12 @@ use Prim.Native.Nat.{ℕ, ◌+◌, ◌≤◌, ◌<◌}
 use native.Mathlib.Omega.{arith}
 use borrow.Author.Tests.{le-leb}
 use lib.ListN.{length, get_or, set}
-use Rattle.calendar.specs.Said.{answer, refusal, refused}
+use Rattle.calendar.specs.Said.{Said, answer, refusal, refused}
 use Rattle.calendar.specs.declared.Refusal.{Refusal}
 use Rattle.meter.specs.Lent.{inside, reads, writes}
 use Rattle.meter.specs.Integer.{be_at, stored, is_width, unsigned_at}
 use Rattle.meter.specs.Time.{is_time, bits_of, time_at, time_read_at}
+use Rattle.std.specs.declared.option.Option.{Option}
 use Rattle.meter.specs.declared.time.Time.{Time}
 use Rattle.meter.proofs.ReadsBack.{reads_answer}
 use Rattle.record.specs.Header.{size_there, is_lead, is_header, header_at, header_read_at, put_header}
@@ -25,6 +26,14 @@ reads_refusal a at n right v x y i e = go right refl (rw i at e)
     go : (c : Bool) → right ≡ c → cond c (answer v) (refusal 21 0) ≡ refusal x y → right ≡ false
     go true r e = let z : ◌≡◌ {A = ℕ} 0 1 = cc in absurd (omega arith)
     go false r e = r
+
+-- and its refusal is 21 at 0, which is handed on
+pub refused_21 : {A B : Type 0} (a : List ℕ) (at n : ℕ) (right : Bool) (v : A) (r : Refusal) → inside a at n ≡ true → ◌≡◌ {A = Said A} (refused r) (reads a at n right v) → ◌≡◌ {A = Said B} (refused r) (refusal 21 0)
+refused_21 {A} {B} a at n right v r i e = go right (rw i at e)
+  where
+    go : (c : Bool) → ◌≡◌ {A = Said A} (refused r) (cond c (answer v) (refusal 21 0)) → ◌≡◌ {A = Said B} (refused r) (refusal 21 0)
+    go true f = let z : ◌≡◌ {A = ℕ} 0 1 = cc in absurd (omega arith)
+    go false f = let p : r.number ≡ 21 = cc in let q : r.place ≡ 0 = cc in ap (λ (k : ℕ). refusal k r.place) p ∙ ap (refusal 21) q
 
 -- a writer that answers, and one that refuses where there is room
 pub writes_answer : (room : List ℕ) (n : ℕ) (right : Bool) (x : ℕ) → answer x ≡ writes room n right → true ≡ right
@@ -89,24 +98,26 @@ module _ (a : List ℕ) (at : ℕ) (i : inside a at 20 ≡ true) where
   not_header : is_header (header_at a at) ≡ false → refusal 21 0 ≡ header_read_at a at
   not_header e = rw (i, e)
 
-  pub start_bad : (r : Refusal) → refused r ≡ time_read_at a (at + 8) → refusal 21 0 ≡ header_read_at a at
+  pub start_bad : (r : Refusal) → refused r ≡ time_read_at a (at + 8) → refused r ≡ header_read_at a at
   unfolding header_at
   start_bad r e =
+      let g : ◌≡◌ {A = Said Header} (refused r) (refusal 21 0) = refused_21 a (at + 8) 6 (is_time (time_at a (at + 8))) (time_at a (at + 8)) r (part_inside a at 20 8 6 i (omega arith)) e in
       let f : is_time (time_at a (at + 8)) ≡ false = reads_refusal a (at + 8) 6 (is_time (time_at a (at + 8))) (time_at a (at + 8)) r.number r.place (part_inside a at 20 8 6 i (omega arith)) (sym e) in
-      not_header (not_start (header_at a at) f)
+      g ∙ not_header (not_start (header_at a at) f)
 
-  pub stop_bad : (r : Refusal) → refused r ≡ time_read_at a (at + 14) → refusal 21 0 ≡ header_read_at a at
+  pub stop_bad : (r : Refusal) → refused r ≡ time_read_at a (at + 14) → refused r ≡ header_read_at a at
   unfolding header_at
   stop_bad r e =
+      let g : ◌≡◌ {A = Said Header} (refused r) (refusal 21 0) = refused_21 a (at + 14) 6 (is_time (time_at a (at + 14))) (time_at a (at + 14)) r (part_inside a at 20 14 6 i (omega arith)) e in
       let f : is_time (time_at a (at + 14)) ≡ false = reads_refusal a (at + 14) 6 (is_time (time_at a (at + 14))) (time_at a (at + 14)) r.number r.place (part_inside a at 20 14 6 i (omega arith)) (sym e) in
-      not_header (not_stop (header_at a at) f)
+      g ∙ not_header (not_stop (header_at a at) f)
 
   module _ (z : ℕ) (e : z ≡ be_at a (at + 4) 4) where
     pub lead_bad : is_lead (get_or a at 0) (get_or a (at + 1) 0) z ≡ false → refusal 21 0 ≡ header_read_at a at
     unfolding header_at
     lead_bad f = not_header (not_lead (header_at a at) (ap (is_lead (get_or a at 0) (get_or a (at + 1) 0)) (sym e) ∙ f))
 
-    pub header_good : (t u : Time) → is_lead (get_or a at 0) (get_or a (at + 1) 0) z ≡ true → answer t ≡ time_read_at a (at + 8) → answer u ≡ time_read_at a (at + 14) → answer record { class = get_or a at 0; group = get_or a (at + 1) 0; subclass = get_or a (at + 2) 0; version = get_or a (at + 3) 0; size = z; start = t; stop = u } ≡ header_read_at a at
+    pub header_good : (t u : Option Time) → is_lead (get_or a at 0) (get_or a (at + 1) 0) z ≡ true → answer t ≡ time_read_at a (at + 8) → answer u ≡ time_read_at a (at + 14) → answer record { class = get_or a at 0; group = get_or a (at + 1) 0; subclass = get_or a (at + 2) 0; version = get_or a (at + 3) 0; size = z; start = t; stop = u } ≡ header_read_at a at
     unfolding header_at
     header_good t u f p q =
         let x = reads_answer a (at + 8) 6 (is_time (time_at a (at + 8))) (time_at a (at + 8)) t (sym p) in

@@ -8,7 +8,7 @@ use native.Mathlib.Omega.{arith}
 use borrow.Author.Tests.{le-leb, leb-true, eq-eqb, ne_eqb}
 use lib.Dec.{eqb}
 use lib.ListN.{length, get_or, set}
-use Rattle.calendar.specs.Said.{answer, refusal, refused}
+use Rattle.calendar.specs.Said.{Said, answer, refusal, refused}
 use Rattle.calendar.specs.declared.Refusal.{Refusal}
 use Rattle.meter.specs.Lent.{inside}
 use Rattle.meter.specs.Integer.{be_at, stored}
@@ -18,7 +18,7 @@ use Rattle.record.specs.Pointer.{is_pointer, pointer_at, pointer_read_at, put_po
 use Rattle.record.specs.declared.header.Header.{Header}
 use Rattle.record.specs.declared.pointer.Pointer.{Pointer}
 use Rattle.record.proofs.FieldLaws.{both, stored_one}
-use Rattle.record.proofs.HeaderLaws.{reads_refusal}
+use Rattle.record.proofs.HeaderLaws.{refused_21, reads_refusal}
 
 -- a header of a pointer record
 abbrev pub is_pointing : Header → Bool
@@ -44,10 +44,11 @@ module _ (a : List ℕ) (at : ℕ) (i : inside a at 27 ≡ true) where
   header_inside : inside a at 20 ≡ true
   header_inside = le-leb (at + 20) (length a) (omega (arith, leb-true (at + 27) (length a) i))
 
-  pub header_bad : (r : Refusal) → refused r ≡ header_read_at a at → refusal 21 0 ≡ pointer_read_at a at
+  pub header_bad : (r : Refusal) → refused r ≡ header_read_at a at → refused r ≡ pointer_read_at a at
   header_bad r e =
+      let g : ◌≡◌ {A = Said Pointer} (refused r) (refusal 21 0) = refused_21 a at 20 (is_header (header_at a at)) (header_at a at) r header_inside e in
       let f = reads_refusal a at 20 (is_header (header_at a at)) (header_at a at) r.number r.place header_inside (sym e) in
-      bad (ap (λ (b : Bool). b && (eqb (header_at a at).class 3 && eqb (header_at a at).size 27)) f)
+      g ∙ bad (ap (λ (b : Bool). b && (eqb (header_at a at).class 3 && eqb (header_at a at).size 27)) f)
 
   module _ (h : Header) (e : answer h ≡ header_read_at a at) where
     header_is : (is_header (header_at a at) ≡ true) × (header_at a at ≡ h)

@@ -14,8 +14,10 @@ use Rattle.calendar.specs.Said.{answer}
 use Rattle.meter.specs.Lent.{inside}
 use Rattle.meter.specs.Integer.{Bytes, be_at, stored}
 use Rattle.meter.specs.Time.{is_time, InDays, bits_of, time_of, time_at, time_read_at}
+use Rattle.std.specs.declared.option.Option.{Option}
+use Rattle.std.specs.declared.result.Result.{Result}
+use Rattle.calendar.specs.declared.Refusal.{Refusal}
 use Rattle.meter.specs.declared.time.Time.{Time}
-use Rattle.meter.specs.declared.integer.Written.{Written}
 use Rattle.meter.proofs.IntegerLaws.{back, be_at_lt, be_at_same}
 use Rattle.meter.proofs.TimeLaws.{in_days, bits_back}
 use Rattle.meter.proofs.ReadsBack.{reads_answer, time_again}
@@ -59,7 +61,7 @@ header_ranges h vs g =
 byte_held : (t : List ℕ) (i v : ℕ) → v < 256 → v % 256 ^ 1 ≡ be_at t i 1 → get_or t i 0 ≡ v
 byte_held t i v h e = sym (byte_is t i) ∙ sym e ∙ mod-eq_of_lt h
 
-time_held : (t : List ℕ) (i : ℕ) (u : Time) → InDays u → is_time u ≡ true → bits_of u % 256 ^ 6 ≡ be_at t i 6 → time_at t i ≡ u
+time_held : (t : List ℕ) (i : ℕ) (u : Option Time) → InDays u → is_time u ≡ true → bits_of u % 256 ^ 6 ≡ be_at t i 6 → time_at t i ≡ u
 time_held t i u d r e = let b = bits_back u d r in ap time_of (sym e ∙ mod-eq_of_lt b.0) ∙ b.1
 
 pub header_held : (t : List ℕ) (h : Header) → is_header h ≡ true → Ranges h → Held t 0 0 (fields_of h) → header_at t 0 ≡ h
@@ -189,7 +191,7 @@ pub pointer_kept : (room : List ℕ) (p : Pointer) (j : ℕ) → 27 ≤ j → ge
 pointer_kept room p j l = ap (λ (s : List ℕ). get_or s j 0) (pointer_fields_lem room p) ∙ put_after room 0 (pointer_fields p) j l
 
 -- ---- THE WRITERS, by their promises: what lies beyond is kept, whatever is answered
-module _ (room exit : List ℕ) (r : Written) (j : ℕ) where
+module _ (room exit : List ℕ) (r : Result ℕ Refusal) (j : ℕ) where
   pub write_header_keeps : (h : Header) → WritesHeader room h r exit → 20 ≤ j → get_or exit j 0 ≡ get_or room j 0
   write_header_keeps h w l = beyond room 20 (is_header h) (put_header room h) exit j w.1 (λ _ _. header_kept room h j l)
 
@@ -197,7 +199,7 @@ module _ (room exit : List ℕ) (r : Written) (j : ℕ) where
   write_pointer_keeps p w l = beyond room 27 (is_pointer p) (put_pointer room p) exit j w.1 (λ _ _. pointer_kept room p j l)
 
 -- and where bytes are answered, what was written reads back, of values in the ranges of their types
-module _ (room exit : List ℕ) (r : Written) where
+module _ (room exit : List ℕ) (r : Result ℕ Refusal) where
   pub header_written_back : (h : Header) → Ranges h → WritesHeader room h r exit → HeaderBack h r exit
   header_written_back h y w e =
       let d = done room 20 (is_header h) (put_header room h) exit 21 20 (sym e ∙ w.0) w.1 in

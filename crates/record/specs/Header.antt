@@ -1,14 +1,14 @@
 -- Record headers (01, "Record header, 20 bytes": class 0, instrument group 1, subclass 2, subclass version 3, record size 4..7, start time
 -- 8..13, stop time 14..19; 002, tables 12, 13 and 14). Assumes nothing.
 use Rattle.std.specs.Prelude.{ℕ, ◌+◌, ◌≡◌, Bool, cond, ◌&&◌, ◌||◌, List, eqb, leb, get_or}
-use Rattle.calendar.specs.Said.{Said, answer, refused}
-use Rattle.meter.specs.Lent.{inside, reads, said_written, Writes}
-use Rattle.meter.specs.declared.integer.Written.{Written}
+use Rattle.calendar.specs.Said.{Said, answer}
+use Rattle.meter.specs.Lent.{inside, reads, Writes}
+use Rattle.std.specs.declared.result.Result.{Result}
+use Rattle.calendar.specs.declared.Refusal.{Refusal}
+use Rattle.calendar.specs.Said.{said}
 use Rattle.meter.specs.Integer.{be_at, stored}
 use Rattle.meter.specs.Time.{is_time, bits_of, time_at}
 use Rattle.record.specs.declared.header.Header.{Header}
-use Rattle.record.specs.declared.header.HeaderRead.{HeaderRead}
-use Rattle.record.specs.declared.header.HeaderRead.TheVariants as R
 
 -- "record size 4..7" of the header at byte at, and 0, which is no size, where its first 8 bytes are not all there
 abbrev pub size_there : List ℕ → ℕ → ℕ
@@ -39,20 +39,15 @@ header_at a at =
 abbrev pub header_read_at : List ℕ → ℕ → Said Header
 header_read_at a at = reads a at 20 (is_header (header_at a at)) (header_at a at)
 
--- what an answer says
-abbrev pub said_header : HeaderRead → Said Header
-said_header (R.Header h) = answer h
-said_header (R.Refused r) = refused r
-
 -- a with the 20 bytes of a header at its start
 unfoldable pub put_header : List ℕ → Header → List ℕ
 put_header a h =
     stored (stored (stored (stored (stored (stored (stored a 0 1 h.class) 1 1 h.group) 2 1 h.subclass) 3 1 h.version) 4 4 h.size) 8 6 (bits_of h.start)) 14 6 (bits_of h.stop)
 
 -- THE WRITER
-abbrev pub WritesHeader : List ℕ → Header → Written → List ℕ → Type 0
+abbrev pub WritesHeader : List ℕ → Header → Result ℕ Refusal → List ℕ → Type 0
 WritesHeader room x r exit = Writes room 20 (is_header x) (put_header room x) r exit
 
 -- AND WHAT IT WROTE READS BACK
-abbrev pub HeaderBack : Header → Written → List ℕ → Type 0
-HeaderBack h r exit = said_written r ≡ answer 20 → header_read_at exit 0 ≡ answer h
+abbrev pub HeaderBack : Header → Result ℕ Refusal → List ℕ → Type 0
+HeaderBack h r exit = said r ≡ answer 20 → header_read_at exit 0 ≡ answer h

@@ -1,14 +1,14 @@
 -- Pointer records (01, "Record header, 20 bytes": "An IPR is exactly 27 bytes: header, target class, target group, target subclass, target
 -- offset (4 bytes, from the product's first byte)"; class 3). The target is not judged (01 leaves that to fault 12). Assumes nothing.
 use Rattle.std.specs.Prelude.{ℕ, ◌+◌, ◌≡◌, Bool, ◌&&◌, List, eqb, get_or}
-use Rattle.calendar.specs.Said.{Said, answer, refused}
-use Rattle.meter.specs.Lent.{reads, said_written, Writes}
-use Rattle.meter.specs.declared.integer.Written.{Written}
+use Rattle.calendar.specs.Said.{Said, answer}
+use Rattle.meter.specs.Lent.{reads, Writes}
+use Rattle.std.specs.declared.result.Result.{Result}
+use Rattle.calendar.specs.declared.Refusal.{Refusal}
+use Rattle.calendar.specs.Said.{said}
 use Rattle.meter.specs.Integer.{be_at, stored}
 use Rattle.record.specs.Header.{is_header, header_at, put_header}
 use Rattle.record.specs.declared.pointer.Pointer.{Pointer}
-use Rattle.record.specs.declared.pointer.PointerRead.{PointerRead}
-use Rattle.record.specs.declared.pointer.PointerRead.TheVariants as R
 
 -- a pointer record has a header of class 3 and of size 27
 unfoldable pub is_pointer : Pointer → Bool
@@ -23,20 +23,15 @@ pointer_at a at =
 abbrev pub pointer_read_at : List ℕ → ℕ → Said Pointer
 pointer_read_at a at = reads a at 27 (is_pointer (pointer_at a at)) (pointer_at a at)
 
--- what an answer says
-abbrev pub said_pointer : PointerRead → Said Pointer
-said_pointer (R.Pointer p) = answer p
-said_pointer (R.Refused r) = refused r
-
 -- a with the 27 bytes of a pointer record at its start
 unfoldable pub put_pointer : List ℕ → Pointer → List ℕ
 put_pointer a p =
     stored (stored (stored (stored (put_header a p.header) 20 1 p.class) 21 1 p.group) 22 1 p.subclass) 23 4 p.offset
 
 -- THE WRITER
-abbrev pub WritesPointer : List ℕ → Pointer → Written → List ℕ → Type 0
+abbrev pub WritesPointer : List ℕ → Pointer → Result ℕ Refusal → List ℕ → Type 0
 WritesPointer room x r exit = Writes room 27 (is_pointer x) (put_pointer room x) r exit
 
 -- AND WHAT IT WROTE READS BACK
-abbrev pub PointerBack : Pointer → Written → List ℕ → Type 0
-PointerBack p r exit = said_written r ≡ answer 27 → pointer_read_at exit 0 ≡ answer p
+abbrev pub PointerBack : Pointer → Result ℕ Refusal → List ℕ → Type 0
+PointerBack p r exit = said r ≡ answer 27 → pointer_read_at exit 0 ≡ answer p

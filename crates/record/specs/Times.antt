@@ -4,14 +4,14 @@ use Rattle.std.specs.Prelude.{ℕ, ◌+◌, Bool, true, false, not, ◌&&◌, Li
 use Rattle.calendar.specs.Said.{Said, answer, refusal}
 use Rattle.meter.specs.Lent.{inside}
 use Rattle.meter.specs.Time.{time_at, is_time, compared}
-use Rattle.meter.specs.declared.time.Order.{Order}
-use Rattle.meter.specs.declared.time.Order.TheVariants as O
+use Rattle.std.specs.declared.cmp.Ordering.TheVariants.{Less, Equal, Greater}
+use Rattle.std.specs.declared.cmp.Ordering.{Ordering}
 
 -- the order of two times is that the first comes after the second; undefined times have none
-abbrev pub is_after : Said Order → Bool
-is_after (answer O.After) = true
-is_after (answer O.Before) = false
-is_after (answer O.Same) = false
+abbrev pub is_after : Said Ordering → Bool
+is_after (answer Greater) = true
+is_after (answer Less) = false
+is_after (answer Equal) = false
 is_after (refusal n p) = false
 
 -- both times of the header at byte at are right, and the start is not after the stop where both are defined

@@ -1,14 +1,16 @@
 // Record headers, the 20 bytes at the start of each record.
 ghost use Rattle.std.specs.Prelude.{◌≡◌, true, ◌+◌, ◌≤◌, length};
+ghost use Rattle.calendar.specs.Said.{said};
 ghost use Rattle.meter.specs.Integer.{be_at, stored};
 ghost use Rattle.meter.specs.Time.{is_time, bits_of};
 ghost use Rattle.record.specs.Header.{size_there, is_class, is_group, is_lead, is_header};
-ghost use Rattle.record.specs.Header.{header_read_at, said_header, put_header, WritesHeader, HeaderBack};
+ghost use Rattle.record.specs.Header.{header_read_at, put_header, WritesHeader, HeaderBack};
 
-use calendar::Refusal;
-use meter::integer::{Unsigned, Written, holds};
-use meter::time::{Time, TimeRead};
+use calendar::{Refusal, fault};
+use meter::integer::holds;
+use meter::time::Time;
 
+// Class and group are numbers, and no enums: `write_header` promises 21 for one that is unknown, which an enum would not let a caller hand in.
 #[derive(Clone, Copy)]
 pub struct Header {
     pub class: u8,
@@ -16,14 +18,8 @@ pub struct Header {
     pub subclass: u8,
     pub version: u8,
     pub size: u32,
-    pub start: Time,
-    pub stop: Time,
-}
-
-#[derive(Clone, Copy)]
-pub enum HeaderRead {
-    Header(Header),
-    Refused(Refusal),
+    pub start: Option<Time>,
+    pub stop: Option<Time>,
 }
 
 // The number in the 4 bytes from `at` on.
@@ -32,8 +28,8 @@ pub(crate) fn word_at(bytes: &[u8], at: usize) -> u32
     ensures { result ≡ be_at bytes.now at 4 }
 {
     match meter::integer::read_unsigned(bytes, at, 4) {
-        Unsigned::Value(v) => v as u32,
-        Unsigned::Refused(_) => 0,
+        Ok(v) => v as u32,
+        Err(_) => 0,
     }
 }
 
@@ -48,96 +44,66 @@ pub fn size_at(bytes: &[u8], at: usize) -> usize
 }
 
 // A class of 002's Table 13: MPHR, SPHR, IPR, GEADR, GIADR, VEADR, VIADR, MDR.
+#[tactic(auto, unfolding(crate::specs::Header::is_class))]
 pub fn is_class(class: u8) -> bool
     ensures { result ≡ is_class class }
 {
-    if class < 1 {
-        return false;
-    }
-    class <= 8
+    matches!(class, 1..=8)
 }
 
 // A group of 002's Table 14. It has no 14: an archive record is 99.
+#[tactic(auto, unfolding(crate::specs::Header::is_group))]
 pub fn is_group(group: u8) -> bool
     ensures { result ≡ is_group group }
 {
-    if group <= 13 {
-        return true;
-    }
-    if group == 15 {
-        return true;
-    }
-    group == 99
+    matches!(group, 0..=13 | 15 | 99)
 }
 
 // What a header needs but for its times.
+#[tactic(auto, unfolding(crate::specs::Header::is_lead))]
 fn is_lead(class: u8, group: u8, size: u32) -> bool
     ensures { result ≡ is_lead class group size }
 {
-    if !is_class(class) {
-        return false;
-    }
-    if !is_group(group) {
-        return false;
-    }
-    20 <= size
+    is_class(class) && is_group(group) && 20 <= size
 }
 
 // A time is right where `meter` writes it.
-fn is_time(time: Time) -> bool
+fn is_time(time: Option<Time>) -> bool
     ensures { result ≡ is_time time }
 {
     let mut scratch = [0u8; 6];
-    match meter::time::write_time(&mut scratch, time) {
-        Written::Bytes(_) => true,
-        Written::Refused(_) => false,
-    }
+    meter::time::write_time(&mut scratch, time).is_ok()
 }
 
 // "not for start after stop": the order of the two times is not looked at.
+#[tactic(auto, unfolding(crate::specs::Header::is_header))]
 pub(crate) fn is_header(header: Header) -> bool
     ensures { result ≡ is_header header }
 {
-    if !is_lead(header.class, header.group, header.size) {
-        return false;
-    }
-    let start = header.start;
-    if !is_time(start) {
-        return false;
-    }
-    let stop = header.stop;
-    is_time(stop)
+    is_lead(header.class, header.group, header.size)
+        && is_time(header.start)
+        && is_time(header.stop)
 }
 
-pub fn read_header(bytes: &[u8], at: usize) -> HeaderRead
-    ensures { said_header result ≡ header_read_at bytes.now at }
+pub fn read_header(bytes: &[u8], at: usize) -> Result<Header, Refusal>
+    ensures { said result ≡ header_read_at bytes.now at }
 {
     if !holds(bytes.len(), at, 20) {
-        return HeaderRead::Refused(Refusal {
-            number: 20,
+        return Err(Refusal {
+            number: fault::OUTSIDE,
             place: bytes.len(),
         });
     }
-    let TimeRead::Time(start) = meter::time::read_time(bytes, at + 8) else {
-        return HeaderRead::Refused(Refusal {
-            number: 21,
-            place: 0,
-        });
-    };
-    let TimeRead::Time(stop) = meter::time::read_time(bytes, at + 14) else {
-        return HeaderRead::Refused(Refusal {
-            number: 21,
-            place: 0,
-        });
-    };
+    let start = meter::time::read_time(bytes, at + 8)?;
+    let stop = meter::time::read_time(bytes, at + 14)?;
     let size = word_at(bytes, at + 4);
     if !is_lead(bytes[at], bytes[at + 1], size) {
-        return HeaderRead::Refused(Refusal {
-            number: 21,
+        return Err(Refusal {
+            number: fault::MALFORMED,
             place: 0,
         });
     }
-    HeaderRead::Header(Header {
+    Ok(Header {
         class: bytes[at],
         group: bytes[at + 1],
         subclass: bytes[at + 2],
@@ -153,15 +119,15 @@ pub(crate) fn put_word(room: &mut [u8], at: usize, word: u32)
     requires { at + 4 ≤ length room.old }
     ensures { room.new ≡ stored room.old at 4 word }
 {
-    meter::integer::write_unsigned(&mut room[at..], 4, word as u64);
+    let _ = meter::integer::write_unsigned(&mut room[at..], 4, word as u64);
 }
 
 // The 6 bytes of a time from `at` on.
-fn put_time(room: &mut [u8], at: usize, time: Time)
+fn put_time(room: &mut [u8], at: usize, time: Option<Time>)
     requires { (at + 6 ≤ length room.old) × (is_time time ≡ true) }
     ensures { room.new ≡ stored room.old at 6 (bits_of time) }
 {
-    meter::time::write_time(&mut room[at..], time);
+    let _ = meter::time::write_time(&mut room[at..], time);
 }
 
 // The 20 bytes of a header at the start of the room.
@@ -174,28 +140,26 @@ pub(crate) fn put_header(room: &mut [u8], header: Header)
     room[2] = header.subclass;
     room[3] = header.version;
     put_word(room, 4, header.size);
-    let start = header.start;
-    put_time(room, 8, start);
-    let stop = header.stop;
-    put_time(room, 14, stop);
+    put_time(room, 8, header.start);
+    put_time(room, 14, header.stop);
 }
 
-pub fn write_header(room: &mut [u8], header: Header) -> Written
+pub fn write_header(room: &mut [u8], header: Header) -> Result<usize, Refusal>
     ensures writes_header { WritesHeader room.old header result room.new }
     ensures reads_back { HeaderBack header result room.new }
 {
     if !is_header(header) {
-        return Written::Refused(Refusal {
-            number: 21,
+        return Err(Refusal {
+            number: fault::MALFORMED,
             place: 0,
         });
     }
     if room.len() < 20 {
-        return Written::Refused(Refusal {
-            number: 18,
+        return Err(Refusal {
+            number: fault::ROOM,
             place: 20,
         });
     }
     put_header(room, header);
-    Written::Bytes(20)
+    Ok(20)
 }

@@ -2,8 +2,6 @@
 ghost use Rattle.std.specs.Prelude.{◌≡◌};
 ghost use Rattle.record.specs.Times.{times_stand};
 
-use meter::time::{Order, TimeOrder, TimeRead};
-
 // Not where the 20 bytes of the header are not all there.
 pub fn times_stand(bytes: &[u8], at: usize) -> bool
     ensures { result ≡ times_stand bytes.now at }
@@ -11,18 +9,14 @@ pub fn times_stand(bytes: &[u8], at: usize) -> bool
     if !meter::integer::holds(bytes.len(), at, 20) {
         return false;
     }
-    let TimeRead::Time(start) = meter::time::read_time(bytes, at + 8) else {
-        return false;
-    };
-    let TimeRead::Time(stop) = meter::time::read_time(bytes, at + 14) else {
+    let (Ok(start), Ok(stop)) = (
+        meter::time::read_time(bytes, at + 8),
+        meter::time::read_time(bytes, at + 14),
+    ) else {
         return false;
     };
     match meter::time::time_order(start, stop) {
-        TimeOrder::Refused(_) => true,
-        TimeOrder::Order(o) => match o {
-            Order::Before => true,
-            Order::Same => true,
-            Order::After => false,
-        },
+        Ok(order) => order.is_le(),
+        Err(_) => true,
     }
 }

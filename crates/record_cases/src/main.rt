@@ -3,13 +3,13 @@
 // of each kind agreed, and each disagreement whole.
 #![tactic(auto)]
 
-use cases::answer::{Answer, judged, refused, values, written};
+use calendar::Refusal;
+use cases::answer::{Answer, judged, refused, value, values, written};
 use cases::counts::{Counts, counted, none, print_counts};
 use cases::input::{byte, fitting, is_same, part, read, word};
-use meter::integer::Written;
 use meter::time::Time;
-use record::header::{Header, HeaderRead};
-use record::pointer::{Pointer, PointerRead};
+use record::header::Header;
+use record::pointer::Pointer;
 use std::io;
 use std::io::{Read, Write};
 
@@ -23,10 +23,10 @@ write_pointer   \
 may_follow      ";
 
 // ---- answers
-fn time_value(t: Time) -> u64 {
+fn time_value(t: Option<Time>) -> u64 {
     match t {
-        Time::Undefined => 0xffff_ffff_ffff,
-        Time::At { day, milli } => (day as u64) * 0x1_0000_0000 + (milli as u64),
+        None => 0xffff_ffff_ffff,
+        Some(t) => (t.day as u64) * 0x1_0000_0000 + (t.milli as u64),
     }
 }
 
@@ -36,21 +36,18 @@ fn triple(class: u8, group: u8, subclass: u8) -> u64 {
 
 fn header_value(h: Header, e: u64) -> Answer {
     let lead = triple(h.class, h.group, h.subclass);
-    let start = h.start;
-    let stop = h.stop;
     values(
         (lead % 0x1_000000) * 256 + (h.version as u64),
         h.size as u64,
-        time_value(start),
-        time_value(stop),
+        time_value(h.start),
+        time_value(h.stop),
         e,
     )
 }
 
 fn pointer_value(p: Pointer) -> Answer {
     let target = triple(p.class, p.group, p.subclass) % 0x1_000000;
-    let header = p.header;
-    header_value(header, target * 0x1_0000_0000 + (p.offset as u64))
+    header_value(p.header, target * 0x1_0000_0000 + (p.offset as u64))
 }
 
 // ---- what is handed in
@@ -59,16 +56,16 @@ fn lent(case: &[u8]) -> &[u8] {
     part(case, 4, byte(case, 1) as usize)
 }
 
-fn time_in(case: &[u8], at: usize) -> Time {
+fn time_in(case: &[u8], at: usize) -> Option<Time> {
     if at > 40 {
-        return Time::Undefined;
+        return None;
     }
     let day = (word(case, at, 2) % 65536) as u16;
     let milli = (word(case, at + 2, 4) % 0x1_0000_0000) as u32;
     if day == 65535 && milli == 0xffff_ffff {
-        return Time::Undefined;
+        return None;
     }
-    Time::At { day, milli }
+    Some(Time { day, milli })
 }
 
 fn header_in(case: &[u8]) -> Header {
@@ -96,27 +93,27 @@ fn pointer_in(case: &[u8]) -> Pointer {
 // ---- the cases, by their kinds
 fn run_read_header(case: &[u8]) -> Answer {
     match record::header::read_header(lent(case), byte(case, 2) as usize) {
-        HeaderRead::Header(h) => header_value(h, 0),
-        HeaderRead::Refused(r) => refused(r, true),
+        Ok(h) => header_value(h, 0),
+        Err(r) => refused(r, true),
     }
 }
 
 fn run_read_pointer(case: &[u8]) -> Answer {
     match record::pointer::read_pointer(lent(case), byte(case, 2) as usize) {
-        PointerRead::Pointer(p) => pointer_value(p),
-        PointerRead::Refused(r) => refused(r, true),
+        Ok(p) => pointer_value(p),
+        Err(r) => refused(r, true),
     }
 }
 
 fn run_may_follow(case: &[u8]) -> Answer {
-    if record::follow::may_follow(byte(case, 4), byte(case, 5)) {
-        values(1, 0, 0, 0, 0)
-    } else {
-        values(0, 0, 0, 0, 0)
-    }
+    value(
+        u64::from(record::follow::may_follow(byte(case, 4), byte(case, 5))),
+        0,
+        0,
+    )
 }
 
-fn write_into(case: &[u8], room: &mut [u8]) -> Written {
+fn write_into(case: &[u8], room: &mut [u8]) -> Result<usize, Refusal> {
     if byte(case, 0) == 2 {
         record::header::write_header(room, header_in(case))
     } else {

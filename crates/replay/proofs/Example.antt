@@ -8,7 +8,8 @@ use lib.ListN.{length}
 use Rattle.meter.specs.Integer.{be_at}
 use Rattle.replay.specs.Layout.{sums}
 use Rattle.replay.specs.Replay.{refused_at, ReplayIs, unsummed, none}
-use Rattle.replay.specs.declared.run.Replayed.TheVariants as R
+use Rattle.std.specs.declared.option.Option.TheVariants.{None}
+use Rattle.std.specs.declared.result.Result.TheVariants.{Ok}
 
 -- two parts, of 2^32 - 1 bytes and of 2, and two answers: waiting with 0 and 0
 abbrev pub wrapped : List ℕ
@@ -19,6 +20,6 @@ unfolding be_at sums
 never_wrapped b h = unsummed refl refl (λ e. omega (arith, h, e))
 
 -- no parts: two counts of 0
-pub no_parts : ReplayIs (0 ∷ 0 ∷ 0 ∷ 0 ∷ 0 ∷ 0 ∷ 0 ∷ 0 ∷ []) [] R.Same
+pub no_parts : ReplayIs (0 ∷ 0 ∷ 0 ∷ 0 ∷ 0 ∷ 0 ∷ 0 ∷ 0 ∷ []) [] (Ok None)
 unfolding be_at sums
 no_parts = none (record { sized = refl; even = refl; summed = refl }) (λ k h. absurd (omega (arith, h)))

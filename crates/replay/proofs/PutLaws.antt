@@ -8,11 +8,10 @@ use mathlib.Core.List.{List}
 use lib.ListN.{length, get_or}
 use Rattle.meter.specs.Integer.{stored}
 use Rattle.meter.proofs.IntegerLaws.{stored_length, stored_before, stored_after, back, be_at_same}
-use Rattle.judge.specs.declared.arrival.Arrival.{Arrival}
-use Rattle.replay.specs.Layout.{number_at, length_at, Three, three, three_at, three_of, length_in}
+use Rattle.replay.specs.Layout.{number_at, length_at, Three, three, three_at, length_in}
 use Rattle.replay.specs.Replay.{Answered}
 use Rattle.replay.specs.Record.{record_size}
-use Rattle.replay.specs.Steps.{Kept, Puts, Fits, PutsLengths, Recording, PutsAnswers, PutsRecord}
+use Rattle.replay.specs.Steps.{Kept, Puts, PutsLengths, Recording, PutsAnswers, PutsRecord}
 use Rattle.replay.proofs.RunLaws.{below_next, said_as}
 
 -- ---- what is kept
@@ -92,12 +91,6 @@ length_put {ls} {room} {now} {next} {k} {n} h e is l w =
     one = put_kept now (1 + k) n
 
 -- ---- the answers
-pub puts_of : {a z : List ℕ} {j : ℕ} {s s' : Arrival} → s ≡ s' → Puts a j (three_of s') z → Puts a j (three_of s) z
-puts_of {a} {z} {j} e h = subst (λ (x : Arrival). Puts a j (three_of x) z) (sym e) h
-
-pub fits_of : {s s' : Arrival} → s ≡ s' → Fits s → Fits s'
-fits_of e h = subst Fits e h
-
 pub no_answers : (ls b room : List ℕ) → PutsAnswers ls b 0 room room
 no_answers ls b room = record { kept = kept_none room (8 + 4 * length ls) (8 + 4 * length ls + 12 * 0); stand = λ k h. absurd (omega arith) }
 

@@ -8,8 +8,11 @@ use mathlib.Core.Path.{◌≡◌, refl, sym, ap, ◌∙◌, subst}
 use mathlib.Core.List.{List, [], ◌++◌}
 use lib.ListN.{length, get_or, take, drop}
 use lib.Seq.{ext_get_or, take_at}
-use Rattle.meter.specs.declared.integer.Written.{Written}
-use Rattle.meter.specs.declared.integer.Written.TheVariants as W
+use Rattle.std.specs.declared.option.Option.TheVariants.{Some, None}
+use Rattle.std.specs.declared.result.Result.TheVariants.{Ok}
+use Rattle.std.specs.declared.option.Option.{Option}
+use Rattle.std.specs.declared.result.Result.{Result}
+use Rattle.calendar.specs.declared.Refusal.{Refusal}
 use Rattle.meter.proofs.IntegerLaws.{bytes_same}
 use Rattle.watch.specs.Watched.{Watched}
 use Rattle.watch.specs.Stands.{joined}
@@ -18,8 +21,6 @@ use Rattle.replay.specs.Layout.{number_at, parts, length_at, answers, Three, thr
 use Rattle.replay.specs.Replay.{refused_at, Answered, Agrees, Differs, Replayable, ReplayIs, missized, uneven, unsummed, none, first}
 use Rattle.meter.specs.Integer.{Bytes}
 use Rattle.replay.specs.Record.{Recordable, record_size, Records, RecordIs, unfit, no_room, written, Fed}
-use Rattle.replay.specs.declared.run.Replayed.{Replayed}
-use Rattle.replay.specs.declared.run.Replayed.TheVariants as R
 use Rattle.replay.proofs.SumLaws.{sums_same}
 
 -- ---- one answer of the watch after each part
@@ -35,21 +36,21 @@ pub not_both : {r b : List ℕ} {k : ℕ} → Differs r b k → Agrees r b k →
 not_both d a = d.other (unique_answered a d.answered)
 
 -- ---- NO SECOND ANSWER FITS
-unfit_37 : {r b : List ℕ} {x : Replayed} → (length r ≡ size_of r → ⊥) → ReplayIs r b x → refused_at 37 0 ≡ x
+unfit_37 : {r b : List ℕ} {x : Result (Option ℕ) Refusal} → (length r ≡ size_of r → ⊥) → ReplayIs r b x → refused_at 37 0 ≡ x
 unfit_37 n (missized _) = refl
 unfit_37 n (uneven s _) = absurd (n s)
 unfit_37 n (unsummed s _ _) = absurd (n s)
 unfit_37 n (none f _) = absurd (n f.sized)
 unfit_37 n (first f _ _ _ _) = absurd (n f.sized)
 
-unfit_38 : {r b : List ℕ} {x : Replayed} → length r ≡ size_of r → (answers r ≡ parts r → ⊥) → ReplayIs r b x → refused_at 38 0 ≡ x
+unfit_38 : {r b : List ℕ} {x : Result (Option ℕ) Refusal} → length r ≡ size_of r → (answers r ≡ parts r → ⊥) → ReplayIs r b x → refused_at 38 0 ≡ x
 unfit_38 s n (missized m) = absurd (m s)
 unfit_38 s n (uneven _ _) = refl
 unfit_38 s n (unsummed _ e _) = absurd (n e)
 unfit_38 s n (none f _) = absurd (n f.even)
 unfit_38 s n (first f _ _ _ _) = absurd (n f.even)
 
-unfit_39 : {r b : List ℕ} {x : Replayed} → length r ≡ size_of r → answers r ≡ parts r → (sums (length_at r) (parts r) ≡ length b → ⊥) → ReplayIs r b x → refused_at 39 0 ≡ x
+unfit_39 : {r b : List ℕ} {x : Result (Option ℕ) Refusal} → length r ≡ size_of r → answers r ≡ parts r → (sums (length_at r) (parts r) ≡ length b → ⊥) → ReplayIs r b x → refused_at 39 0 ≡ x
 unfit_39 s e n (missized m) = absurd (m s)
 unfit_39 s e n (uneven _ m) = absurd (m e)
 unfit_39 s e n (unsummed _ _ _) = refl
@@ -65,21 +66,21 @@ one_first k j f d g e = go (dec_lt k j) (dec_lt j k)
     go (no h) (yes m) = absurd (not_both e (f j m))
     go (no h) (no m) = omega (arith, h, m)
 
-fit_none : {r b : List ℕ} {x : Replayed} → Replayable r b → ((k : ℕ) → k < parts r → Agrees r b k) → ReplayIs r b x → R.Same ≡ x
+fit_none : {r b : List ℕ} {x : Result (Option ℕ) Refusal} → Replayable r b → ((k : ℕ) → k < parts r → Agrees r b k) → ReplayIs r b x → (Ok None) ≡ x
 fit_none f a (missized n) = absurd (n f.sized)
 fit_none f a (uneven _ n) = absurd (n f.even)
 fit_none f a (unsummed _ _ n) = absurd (n f.summed)
 fit_none f a (none _ _) = refl
 fit_none f a (first _ k h _ d) = absurd (not_both d (a k h))
 
-fit_first : {r b : List ℕ} {x : Replayed} (k : ℕ) → Replayable r b → k < parts r → ((j : ℕ) → j < k → Agrees r b j) → Differs r b k → ReplayIs r b x → R.Differs k ≡ x
+fit_first : {r b : List ℕ} {x : Result (Option ℕ) Refusal} (k : ℕ) → Replayable r b → k < parts r → ((j : ℕ) → j < k → Agrees r b j) → Differs r b k → ReplayIs r b x → Ok (Some k) ≡ x
 fit_first k f h a d (missized n) = absurd (n f.sized)
 fit_first k f h a d (uneven _ n) = absurd (n f.even)
 fit_first k f h a d (unsummed _ _ n) = absurd (n f.summed)
 fit_first k f h a d (none _ g) = absurd (not_both d (g k h))
-fit_first k f h a d (first _ j _ g e) = ap R.Differs (one_first k j a d g e)
+fit_first k f h a d (first _ j _ g e) = ap (λ n. Ok (Some n)) (one_first k j a d g e)
 
-pub unique_replay : (r b : List ℕ) (x y : Replayed) → ReplayIs r b x → ReplayIs r b y → x ≡ y
+pub unique_replay : (r b : List ℕ) (x y : Result (Option ℕ) Refusal) → ReplayIs r b x → ReplayIs r b y → x ≡ y
 unique_replay r b x y (missized n) h = unfit_37 n h
 unique_replay r b x y (uneven s n) h = unfit_38 s n h
 unique_replay r b x y (unsummed s e n) h = unfit_39 s e n h
@@ -91,15 +92,15 @@ pub too_short : (r b : List ℕ) → length r < 8 → ReplayIs r b (refused_at 3
 too_short r b h = missized (λ e. omega arith)
 
 -- ---- "name the first part whose answer differs"
-pub names_first : {r b : List ℕ} {k : ℕ} → ReplayIs r b (R.Differs k) → (k < parts r) × ((j : ℕ) → j < k → Agrees r b j) × (Agrees r b k → ⊥)
+pub names_first : {r b : List ℕ} {k : ℕ} → ReplayIs r b (Ok (Some k)) → (k < parts r) × ((j : ℕ) → j < k → Agrees r b j) × (Agrees r b k → ⊥)
 names_first (first f k h a d) = (h, a, not_both d)
 
 -- ---- "or none": a replay that says none vouches for every answer
-pub vouches : {r b : List ℕ} → ReplayIs r b R.Same → Replayable r b × ((k : ℕ) → k < parts r → Agrees r b k)
+pub vouches : {r b : List ℕ} → ReplayIs r b (Ok None) → Replayable r b × ((k : ℕ) → k < parts r → Agrees r b k)
 vouches (none f a) = (f, a)
 
 -- ---- WHAT WAS RECORDED READS BACK
-pub reads_back : {ls b room room' : List ℕ} {n : ℕ} → RecordIs ls b room (W.Bytes n) room' → Recordable ls b × Records ls b (take n room')
+pub reads_back : {ls b room room' : List ℕ} {n : ℕ} → RecordIs ls b room (Ok n) room' → Recordable ls b × Records ls b (take n room')
 reads_back {ls} {b} (written f _ r k) = (f, subst (Records ls b) (sym (take_at r _ (record_size ls) k.long)) k)
 
 -- the record's own lengths are those that were given
@@ -107,7 +108,7 @@ along : {ls b r : List ℕ} (k : Records ls b r) (n : ℕ) → n ≤ length ls �
 along k n h j l = sym (k.lengths j (omega arith))
 
 -- ---- "Replaying what the watch recorded always gives none"
-pub records_replay : {ls b r : List ℕ} → Recordable ls b → Records ls b r → ReplayIs r b R.Same
+pub records_replay : {ls b r : List ℕ} → Recordable ls b → Records ls b r → ReplayIs r b (Ok None)
 records_replay {ls} {b} {r} f k = none
     (record {
       sized = omega (arith, k.long, k.parts, k.answers);
@@ -116,10 +117,10 @@ records_replay {ls} {b} {r} f k = none
     })
     (λ i h. answered_along {f = length_in ls} {g = length_at r} (along k (suc i) (omega (arith, k.parts))) (k.answered i (omega (arith, k.parts))))
 
-pub recorded_gives_none : {ls b room room' : List ℕ} {n : ℕ} → RecordIs ls b room (W.Bytes n) room' → (x : Replayed) → ReplayIs (take n room') b x → x ≡ R.Same
+pub recorded_gives_none : {ls b room room' : List ℕ} {n : ℕ} → RecordIs ls b room (Ok n) room' → (x : Result (Option ℕ) Refusal) → ReplayIs (take n room') b x → x ≡ Ok None
 recorded_gives_none {b = b} {room' = room'} {n = n} w x h =
     let k = reads_back w in
-    unique_replay (take n room') b x R.Same h (records_replay k.0 k.1)
+    unique_replay (take n room') b x (Ok None) h (records_replay k.0 k.1)
 
 -- ---- THE ONLY RECORD THAT GIVES NONE
 -- bytes are fixed by their numbers
@@ -185,7 +186,7 @@ unique_records {ls} {b} {r} {q} x y = alike_same (length ls) r q x.bytes y.bytes
     })
 
 -- a record that replays without a difference is what the watch records of its lengths
-pub is_recorded : {r b : List ℕ} (ls : List ℕ) → Bytes r → ReplayIs r b R.Same → parts r ≡ length ls → ((k : ℕ) → k < length ls → length_at r k ≡ get_or ls k 0) → Records ls b r
+pub is_recorded : {r b : List ℕ} (ls : List ℕ) → Bytes r → ReplayIs r b (Ok None) → parts r ≡ length ls → ((k : ℕ) → k < length ls → length_at r k ≡ get_or ls k 0) → Records ls b r
 is_recorded {r} {b} ls x h e l = let v = vouches h in record {
   bytes = x;
   long = omega (arith, v.0.sized, v.0.even, e);
@@ -196,7 +197,7 @@ is_recorded {r} {b} ls x h e l = let v = vouches h in record {
 }
 
 -- so two records of one product that both give none and have the same lengths are the same bytes
-pub only_record : {r q b : List ℕ} → Bytes r → Bytes q → ReplayIs r b R.Same → ReplayIs q b R.Same → parts r ≡ parts q → ((k : ℕ) → k < parts r → length_at r k ≡ length_at q k) → r ≡ q
+pub only_record : {r q b : List ℕ} → Bytes r → Bytes q → ReplayIs r b (Ok None) → ReplayIs q b (Ok None) → parts r ≡ parts q → ((k : ℕ) → k < parts r → length_at r k ≡ length_at q k) → r ≡ q
 only_record {r} {q} {b} x y h m e l =
     let v = vouches h in
     let w = vouches m in
@@ -213,11 +214,11 @@ only_record {r} {q} {b} x y h m e l =
     })
 
 -- and writing it again gives it again
-pub written_again : {r b room room' : List ℕ} {n : ℕ} (ls : List ℕ) → Bytes r → ReplayIs r b R.Same → parts r ≡ length ls → ((k : ℕ) → k < length ls → length_at r k ≡ get_or ls k 0) → RecordIs ls b room (W.Bytes n) room' → take n room' ≡ r
+pub written_again : {r b room room' : List ℕ} {n : ℕ} (ls : List ℕ) → Bytes r → ReplayIs r b (Ok None) → parts r ≡ length ls → ((k : ℕ) → k < length ls → length_at r k ≡ get_or ls k 0) → RecordIs ls b room (Ok n) room' → take n room' ≡ r
 written_again ls x h e l w = unique_records (reads_back w).1 (is_recorded ls x h e l)
 
 -- ---- NO SECOND ANSWER AND NO SECOND ROOM FITS THE WRITER'S PROMISE
-pub unique_record : (ls b room : List ℕ) (x y : Written) (p q : List ℕ) → RecordIs ls b room x p → RecordIs ls b room y q → (x ≡ y) × (p ≡ q)
+pub unique_record : (ls b room : List ℕ) (x y : Result ℕ Refusal) (p q : List ℕ) → RecordIs ls b room x p → RecordIs ls b room y q → (x ≡ y) × (p ≡ q)
 unique_record ls b room x y p q (unfit n) (unfit _) = (refl, refl)
 unique_record ls b room x y p q (unfit n) (no_room f _) = absurd (n f)
 unique_record ls b room x y p q (unfit n) (written f _ _ _) = absurd (n f)
@@ -237,8 +238,8 @@ fed_answered x = record {
 }
 
 -- so a record that anyone made by feeding a watch, of the parts that it names, gives none; and one that gives none has that watch's answers
-pub fed_gives_none : {r b : List ℕ} → Replayable r b → ((k : ℕ) → k < parts r → Fed b (length_at r) k (answer_at r k)) → (x : Replayed) → ReplayIs r b x → x ≡ R.Same
-fed_gives_none {r} {b} f h x y = unique_replay r b x R.Same y (none f (λ k l. fed_answered (h k l)))
+pub fed_gives_none : {r b : List ℕ} → Replayable r b → ((k : ℕ) → k < parts r → Fed b (length_at r) k (answer_at r k)) → (x : Result (Option ℕ) Refusal) → ReplayIs r b x → x ≡ Ok None
+fed_gives_none {r} {b} f h x y = unique_replay r b x (Ok None) y (none f (λ k l. fed_answered (h k l)))
 
-pub none_is_fed : {r b : List ℕ} → ReplayIs r b R.Same → (k : ℕ) → k < parts r → (t : Three) → Fed b (length_at r) k t → answer_at r k ≡ t
+pub none_is_fed : {r b : List ℕ} → ReplayIs r b (Ok None) → (k : ℕ) → k < parts r → (t : Three) → Fed b (length_at r) k t → answer_at r k ≡ t
 none_is_fed h k l t x = unique_answered ((vouches h).1 k l) (fed_answered x)

@@ -1,5 +1,5 @@
 -- Parts fed one after the other: a watch that stands for the parts before part k, fed part k, stands for one more and says what is right of them; and the
--- loop of the replay by that. Answers compared, number by number. Assumes nothing.
+-- loop of the replay by that. Assumes nothing.
 use Prim.Native.Nat.{ℕ, suc, ◌+◌, ◌-◌, ◌*◌, ◌≤◌, ◌<◌}
 use native.Mathlib.Decide.{ℕ_discrete}
 use native.Mathlib.Numerals.{add-one}
@@ -15,37 +15,13 @@ use Rattle.judge.specs.declared.arrival.Arrival.{Arrival}
 use Rattle.watch.specs.Watched.{Watched}
 use Rattle.watch.specs.Stands.{StandsFor, FedIs, Fresh}
 use Rattle.watch.specs.declared.Watch.{Watch}
-use Rattle.replay.specs.Layout.{parts, length_at, Three, three, three_at, answer_at, three_of, sums}
+use Rattle.replay.specs.Layout.{parts, length_at, Three, three_at, answer_at, three_of, sums}
 use Rattle.replay.specs.Replay.{Answered, Agrees, Replayable, ReplayIs, none, first}
 use Rattle.replay.specs.Steps.{Decides, Fits}
-use Rattle.replay.specs.declared.run.Replayed.{Replayed}
-use Rattle.replay.specs.declared.run.Replayed.TheVariants as R
+use Rattle.std.specs.declared.option.Option.TheVariants.{Some, None}
+use Rattle.std.specs.declared.result.Result.TheVariants.{Ok}
 use Rattle.replay.proofs.SumLaws.{sums_none, sums_suc, sums_le}
 use Rattle.replay.proofs.FitLaws.{fits}
-
--- ---- answers compared
-pub decides_no : {s t : Three} → (s ≡ t → ⊥) → Decides s t false
-decides_no d = record { right = λ e. absurd (true≢false (sym e)); wrong = λ _. d }
-
-pub decides_yes : {s t : Three} → s ≡ t → Decides s t true
-decides_yes e = record { right = λ _. e; wrong = λ f. absurd (true≢false f) }
-
-pub decides_of : {t : Three} {s s' : Arrival} {b : Bool} → s ≡ s' → Decides t (three_of s') b → Decides t (three_of s) b
-decides_of {t} {b = b} e d = subst (λ (x : Arrival). Decides t (three_of x) b) (sym e) d
-
-module _ {n p c n' p' c' : ℕ} where
-  pub number_no : (n ≡ n' → ⊥) → Decides (three n p c) (three n' p' c') false
-  number_no d = decides_no (λ e. d (ap (λ (t : Three). t.number) e))
-
-  pub place_no : (p ≡ p' → ⊥) → Decides (three n p c) (three n' p' c') false
-  place_no d = decides_no (λ e. d (ap (λ (t : Three). t.place) e))
-
-  pub count_is : (m : ℕ) → m ≡ c → n ≡ n' → p ≡ p' → Decides (three n p c) (three n' p' c') (eqb m c')
-  count_is m w e f = go (ℕ_discrete m c')
-    where
-      go : Dec (m ≡ c') → Decides (three n p c) (three n' p' c') (eqb m c')
-      go (yes g) = rw (eq-eqb m c' g) (decides_yes (cc))
-      go (no g) = rw (ne_eqb m c' g) (decides_no (λ h. g (w ∙ ap (λ (t : Three). t.count) h)))
 
 -- ---- a part fed
 module _ {w w' : Watch} {p : List ℕ} {s : Arrival} (b : List ℕ) (at to : ℕ) (up : at ≤ to) (part : p ≡ take (to - at) (drop at b)) (stands : StandsFor w (take at b)) (fed : FedIs w p w' s) where
@@ -108,7 +84,7 @@ module _ {r b : List ℕ} (fit : Replayable r b) {w : Watch} {at k n : ℕ} (cou
   pub answer_place : three_at r (2 + n + 3 * k) ≡ answer_at r k
   answer_place = ap (λ (m : ℕ). three_at r (2 + m + 3 * k)) counted
 
-  pub ends_none : n ≤ k → ReplayIs r b R.Same
+  pub ends_none : n ≤ k → ReplayIs r b (Ok None)
   ends_none l = none fit (λ j m. h.agreed j (omega arith))
 
   module _ {w' : Watch} {p : List ℕ} {s : Arrival} {is : Bool} (l : k < n) (to : ℕ) (far : to ≡ at + length_at r k) (part : p ≡ take (to - at) (drop at b)) (fed : FedIs w p w' s) (d : Decides (three_at r (2 + n + 3 * k)) (three_of s) is) where
@@ -119,7 +95,7 @@ module _ {r b : List ℕ} (fit : Replayable r b) {w : Watch} {at k n : ℕ} (cou
       agreed = below_next {P = Agrees r b} h.agreed (said_as (sym answer_place ∙ d.right e) (answered h.before to far part fed));
     }
 
-    pub ends_first : is ≡ false → ReplayIs r b (R.Differs k)
+    pub ends_first : is ≡ false → ReplayIs r b (Ok (Some k))
     ends_first e = first fit k (omega arith) h.agreed (record { own = three_of s; answered = answered h.before to far part fed; other = λ q. d.wrong e (answer_place ∙ q) })
 
 -- ---- the tests before it
@@ -132,6 +108,3 @@ eqb_yes {m} {n} e = go (ℕ_discrete m n)
 
 pub eqb_no : {m n : ℕ} → eqb m n ≡ false → m ≡ n → ⊥
 eqb_no {m} {n} e d = true≢false (sym (eq-eqb m n d) ∙ e)
-
-pub refused_as : {r b : List ℕ} {x y : Replayed} → x ≡ y → ReplayIs r b y → ReplayIs r b x
-refused_as {r} {b} e h = subst (ReplayIs r b) (sym e) h

@@ -3,7 +3,11 @@ use Prim.Native.Nat.{ℕ, zero, suc, ◌+◌, ◌-◌, ◌*◌, ◌≤◌, ◌<�
 use native.Mathlib.Numerals.{add-one}
 use native.Mathlib.Omega.{arith}
 use mathlib.Core.Path.{◌≡◌, refl, sym, ap, ◌∙◌}
-use Rattle.replay.specs.Layout.{sums}
+use mathlib.Core.List.{List, [], ◌∷◌}
+use lib.ListN.{length}
+use Rattle.std.specs.List.{sum}
+use Rattle.std.proofs.lemmas.List.Sums.{sum_by-cons}
+use Rattle.replay.specs.Layout.{sums, length_in}
 
 pub sums_none : (f : ℕ → ℕ) → sums f 0 ≡ 0
 unfolding sums
@@ -49,3 +53,12 @@ summed_fits h l m = omega (arith, h.most)
 
 pub summed_all : {f : ℕ → ℕ} {k n s : ℕ} → Summed f k s → k ≡ n → s ≡ sums f n
 summed_all {f} h e = h.is ∙ ap (sums f) e
+
+-- ---- of a list
+first : (f : ℕ → ℕ) (k : ℕ) → sums f (suc k) ≡ f 0 + sums (λ (j : ℕ). f (suc j)) k
+first f zero = omega (arith, sums_suc f 0, sums_none f, sums_none (λ (j : ℕ). f (suc j)))
+first f (suc k) = omega (arith, sums_suc f (suc k), first f k, sums_suc (λ (j : ℕ). f (suc j)) k)
+
+pub sum_is : (ls : List ℕ) → sum ls ≡ sums (length_in ls) (length ls)
+sum_is [] = sym (sums_none (length_in []))
+sum_is (x ∷ ls) = omega (arith, sum_by-cons (λ (y : ℕ). y) x ls, sum_is ls, first (length_in (x ∷ ls)) (length ls))

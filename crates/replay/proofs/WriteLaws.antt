@@ -7,8 +7,7 @@ use mathlib.Core.List.{List, ◌++◌}
 use lib.ListN.{length, get_or, take, drop, length-drop, take-append-drop, get_or-eq_default}
 use lib.Seq.{ext_get_or, get_or-take, get_or-drop, length-take-le}
 use Rattle.meter.specs.Integer.{Bytes}
-use Rattle.meter.specs.declared.integer.Written.{Written}
-use Rattle.meter.specs.declared.integer.Written.TheVariants as W
+use Rattle.std.specs.declared.result.Result.TheVariants.{Ok}
 use Rattle.meter.proofs.IntegerLaws.{be_at_same}
 use Rattle.replay.specs.Layout.{number_at, three_at}
 use Rattle.replay.specs.Record.{record_size, Records, RecordIs, written}
@@ -56,8 +55,5 @@ module _ {ls b room room' : List ℕ} (w : Recording ls b (length room)) (bytes 
   rest : drop (record_size ls) room ≡ drop (record_size ls) room'
   rest = ext_get_or 0 (drop (record_size ls) room) (drop (record_size ls) room') (simp length-drop (omega (arith, p.kept.long))) (λ i h. get_or-drop (record_size ls) room i 0 ∙ sym (p.kept.after (record_size ls + i) (omega arith)) ∙ sym (get_or-drop (record_size ls) room' i 0))
 
-  pub writes : RecordIs ls b room (W.Bytes (record_size ls)) room'
-  writes = subst (λ (x : List ℕ). RecordIs ls b room (W.Bytes (record_size ls)) x) (ap (λ (x : List ℕ). front ++ x) rest ∙ take-append-drop (record_size ls) room') (written w.fit w.enough front records)
-
-pub refused_so : {ls b room : List ℕ} {x y : Written} → x ≡ y → RecordIs ls b room y room → RecordIs ls b room x room
-refused_so {ls} {b} {room} e h = subst (λ (r : Written). RecordIs ls b room r room) (sym e) h
+  pub writes : RecordIs ls b room (Ok (record_size ls)) room'
+  writes = subst (λ (x : List ℕ). RecordIs ls b room (Ok (record_size ls)) x) (ap (λ (x : List ℕ). front ++ x) rest ∙ take-append-drop (record_size ls) room') (written w.fit w.enough front records)

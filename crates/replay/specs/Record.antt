@@ -2,8 +2,9 @@
 -- they do not sum to its length or are more than a record counts, then 18 with the bytes needed. Assumes nothing.
 use Rattle.std.specs.Prelude.{ℕ, suc, ◌+◌, ◌*◌, ◌≤◌, ◌<◌, ◌≡◌, List, ◌++◌, length, get_or, take, drop}
 use Rattle.meter.specs.Integer.{Bytes}
-use Rattle.meter.specs.declared.integer.Written.{Written}
-use Rattle.meter.specs.declared.integer.Written.TheVariants as W
+use Rattle.std.specs.declared.result.Result.TheVariants.{Ok, Err}
+use Rattle.std.specs.declared.result.Result.{Result}
+use Rattle.calendar.specs.declared.Refusal.{Refusal}
 use Rattle.judge.specs.declared.arrival.Arrival.{Arrival}
 use Rattle.watch.specs.Stands.{FedIs, Fresh, Feeds, joined}
 use Rattle.watch.specs.declared.Watch.{Watch}
@@ -11,8 +12,8 @@ use Rattle.replay.specs.Layout.{length_at, Three, answer_at, three_of, sums, len
 use Rattle.replay.specs.Layout as L
 use Rattle.replay.specs.Replay.{Answered}
 
-abbrev pub refused_with : ℕ → ℕ → Written
-refused_with n p = W.Refused (record { number = n; place = p })
+abbrev pub refused_with : ℕ → ℕ → Result ℕ Refusal
+refused_with n p = Err (record { number = n; place = p })
 
 -- the lengths make the product, and a 4-byte count can say how many they are
 pub record Recordable (ls b : List ℕ) : Type 0 where
@@ -33,11 +34,11 @@ pub record Records (ls b r : List ℕ) : Type 0 where
   pub answered : (k : ℕ) → k < length ls → Answered b (length_in ls) k (answer_at r k)
 
 -- THE WRITER: what it answers, and the room at exit; a refusal writes nothing, and what lies beyond the record is kept
-pub data RecordIs (ls b room : List ℕ) : Written → List ℕ → Type 0 where
+pub data RecordIs (ls b room : List ℕ) : Result ℕ Refusal → List ℕ → Type 0 where
   unfit : (Recordable ls b → ⊥) → RecordIs ls b room (refused_with 39 0) room
   no_room : Recordable ls b → length room < record_size ls → RecordIs ls b room (refused_with 18 (record_size ls)) room
   written :
-      Recordable ls b → record_size ls ≤ length room → (r : List ℕ) → Records ls b r → RecordIs ls b room (W.Bytes (record_size ls)) (r ++ drop (record_size ls) room)
+      Recordable ls b → record_size ls ≤ length room → (r : List ℕ) → Records ls b r → RecordIs ls b room (Ok (record_size ls)) (r ++ drop (record_size ls) room)
 
 -- "WHAT THE WATCH RECORDED", by request One's own words for feeding: some watch, new and then fed the first k + 1 parts of b, cut up in any way before the last
 -- of them, answered t

@@ -5,11 +5,14 @@ use Rattle.std.specs.Prelude.{ℕ, suc, ◌<◌, ◌≡◌, List, length, take}
 use Rattle.judge.specs.declared.arrival.Arrival.{Arrival}
 use Rattle.watch.specs.Watched.{Watched}
 use Rattle.replay.specs.Layout.{parts, length_at, answers, Three, answer_at, size_of, three_of, sums}
-use Rattle.replay.specs.declared.run.Replayed.{Replayed}
-use Rattle.replay.specs.declared.run.Replayed.TheVariants as R
+use Rattle.std.specs.declared.option.Option.TheVariants.{Some, None}
+use Rattle.std.specs.declared.result.Result.TheVariants.{Ok, Err}
+use Rattle.std.specs.declared.option.Option.{Option}
+use Rattle.std.specs.declared.result.Result.{Result}
+use Rattle.calendar.specs.declared.Refusal.{Refusal}
 
-abbrev pub refused_at : ℕ → ℕ → Replayed
-refused_at n p = R.Refused (record { number = n; place = p })
+abbrev pub refused_at : ℕ → ℕ → Result (Option ℕ) Refusal
+refused_at n p = Err (record { number = n; place = p })
 
 -- t is what the watch answers after part k of b, which comes in parts of the lengths f: what is right to say of the first k + 1 parts
 pub record Answered (b : List ℕ) (f : ℕ → ℕ) (k : ℕ) (t : Three) : Type 0 where
@@ -34,9 +37,9 @@ pub record Replayable (r b : List ℕ) : Type 0 where
   pub summed : sums (length_at r) (parts r) ≡ length b
 
 -- THE REPLAY of the record r with the product b
-pub data ReplayIs (r b : List ℕ) : Replayed → Type 0 where
+pub data ReplayIs (r b : List ℕ) : Result (Option ℕ) Refusal → Type 0 where
   missized : (length r ≡ size_of r → ⊥) → ReplayIs r b (refused_at 37 0)
   uneven : length r ≡ size_of r → (answers r ≡ parts r → ⊥) → ReplayIs r b (refused_at 38 0)
   unsummed : length r ≡ size_of r → answers r ≡ parts r → (sums (length_at r) (parts r) ≡ length b → ⊥) → ReplayIs r b (refused_at 39 0)
-  none : Replayable r b → ((k : ℕ) → k < parts r → Agrees r b k) → ReplayIs r b R.Same
-  first : Replayable r b → (k : ℕ) → k < parts r → ((j : ℕ) → j < k → Agrees r b j) → Differs r b k → ReplayIs r b (R.Differs k)
+  none : Replayable r b → ((k : ℕ) → k < parts r → Agrees r b k) → ReplayIs r b (Ok None)
+  first : Replayable r b → (k : ℕ) → k < parts r → ((j : ℕ) → j < k → Agrees r b j) → Differs r b k → ReplayIs r b (Ok (Some k))

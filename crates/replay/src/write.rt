@@ -1,20 +1,14 @@
 // What the watch records of a product that comes in parts of given lengths.
 ghost use Rattle.std.specs.Prelude.{◌≡◌, ◌+◌, ◌*◌, ◌≤◌, ◌<◌, length};
 ghost use Rattle.replay.specs.Layout.{sums, length_in};
-ghost use Rattle.replay.specs.Record.{refused_with, RecordIs};
+ghost use Rattle.replay.specs.Record.{RecordIs};
 ghost use Rattle.replay.specs.Steps.{PutsThree, Fits, PutsAnswer, PutsLengths, Recording, PutsAnswers, PutsRecord};
 
 use crate::numbers::put_number;
-use calendar::Refusal;
+use calendar::{Refusal, fault};
 use judge::arrival::Arrival;
-use meter::integer::Written;
 
-fn refused(number: u8, place: usize) -> Written
-    ensures { result ≡ refused_with number place }
-{
-    Written::Refused(Refusal { number, place })
-}
-
+// No `usize::from`: the library has none of a u32.
 fn wide(length: u32) -> usize
     ensures { (result ≡ length) × (result < 4294967296) }
 {
@@ -26,13 +20,7 @@ fn sum_in(lengths: &[u32]) -> usize
     requires { length lengths.now < 4294967296 }
     ensures { result ≡ sums (length_in lengths.now) (length lengths.now) }
 {
-    let mut sum: usize = 0;
-    let mut k: usize = 0;
-    while k < lengths.len() {
-        sum += wide(lengths[k]);
-        k += 1;
-    }
-    sum
+    lengths.iter().map(|length| wide(*length)).sum()
 }
 
 // The lengths, from number 1 on.
@@ -40,10 +28,8 @@ fn put_lengths(lengths: &[u32], room: &mut [u8])
     requires { 4 + 4 * length lengths.now ≤ length room.old }
     ensures { PutsLengths lengths.now (length lengths.now) room.old room.new }
 {
-    let mut k: usize = 0;
-    while k < lengths.len() {
-        put_number(room, 1 + k, wide(lengths[k]));
-        k += 1;
+    for (k, length) in lengths.iter().enumerate() {
+        put_number(room, 1 + k, wide(*length));
     }
 }
 
@@ -64,7 +50,7 @@ fn put_answer(room: &mut [u8], j: usize, answer: Arrival)
 {
     match answer {
         Arrival::Waiting { count, end } => put_three(room, j, 0, end, count),
-        Arrival::Refused(r) => put_three(room, j, r.number as usize, r.place, 0),
+        Arrival::Refused(r) => put_three(room, j, usize::from(r.number), r.place, 0),
     }
 }
 
@@ -74,35 +60,13 @@ fn put_answers(lengths: &[u32], product: &[u8], room: &mut [u8])
     ensures { PutsAnswers lengths.now product.now (length lengths.now)
         room.old room.new }
 {
-    let new = watch::new();
-    let mut mark = new.mark;
-    let mut totals = new.totals;
-    let mut tally = new.tally;
-    let mut starts = new.starts;
-    let mut targets = new.targets;
-    let mut kinds = new.kinds;
-    let mut head = new.head;
-    let mut under = new.under;
+    let mut w = watch::new();
     let mut at: usize = 0;
-    let mut k: usize = 0;
-    while k < lengths.len() {
-        let to = at + wide(lengths[k]);
-        let fed = watch::step_in(
-            mark,
-            &mut totals,
-            &mut tally,
-            &mut starts,
-            &mut targets,
-            &mut kinds,
-            &mut head,
-            &mut under,
-            &product[at..to],
-        );
-        let answer = fed.answer;
+    for (k, length) in lengths.iter().enumerate() {
+        let to = at + wide(*length);
+        let answer = watch::feed(&mut w, &product[at..to]);
         put_answer(room, 2 + lengths.len() + 3 * k, answer);
-        mark = fed.mark;
         at = to;
-        k += 1;
     }
 }
 
@@ -119,21 +83,24 @@ fn put_record(lengths: &[u32], product: &[u8], room: &mut [u8])
 }
 
 // The record of the product's arrival in parts of these lengths, at the start of the room.
-pub fn write_record(lengths: &[u32], product: &[u8], room: &mut [u8]) -> Written
+pub fn write_record(lengths: &[u32], product: &[u8], room: &mut [u8]) -> Result<usize, Refusal>
     ensures { RecordIs lengths.now product.now room.old result room.new }
 {
     let n = lengths.len();
     // A count has 4 bytes.
-    if n > 0xffff_ffff {
-        return refused(39, 0);
-    }
-    if sum_in(lengths) != product.len() {
-        return refused(39, 0);
+    if n > 0xffff_ffff || sum_in(lengths) != product.len() {
+        return Err(Refusal {
+            number: fault::PART_LENGTHS,
+            place: 0,
+        });
     }
     let bytes = 8 + 16 * n;
     if room.len() < bytes {
-        return refused(18, bytes);
+        return Err(Refusal {
+            number: fault::ROOM,
+            place: bytes,
+        });
     }
     put_record(lengths, product, room);
-    Written::Bytes(bytes)
+    Ok(bytes)
 }

@@ -3,7 +3,8 @@
 use Prim.Native.Nat.{ℕ}
 use mathlib.Core.Path.{◌≡◌}
 use mathlib.Core.List.{List}
-use Rattle.meter.specs.declared.integer.Written.{Written}
+use Rattle.std.specs.declared.result.Result.{Result}
+use Rattle.calendar.specs.declared.Refusal.{Refusal}
 use Rattle.told.proofs.Determined.{one_told, two_told}
 use Rattle.replay.specs.Record.{RecordIs}
 use Rattle.replay.proofs.ReplayLaws.{unique_replay, unique_record}
@@ -13,4 +14,4 @@ pub unique_wl_replay : (r b n m : List ℕ) → ReplayTold r b n → ReplayTold 
 unique_wl_replay r b n m = one_told (unique_replay r b)
 
 pub unique_wl_record_arrival : (ls b room p q n m : List ℕ) → RecordTold ls b room p n → RecordTold ls b room q m → (p ≡ q) × (n ≡ m)
-unique_wl_record_arrival ls b room p q n m = two_told (λ (e : List ℕ) (x : Written). RecordIs ls b room x e) p q (λ x y. unique_record ls b room x y p q)
+unique_wl_record_arrival ls b room p q n m = two_told (λ (e : List ℕ) (x : Result ℕ Refusal). RecordIs ls b room x e) p q (λ x y. unique_record ls b room x y p q)

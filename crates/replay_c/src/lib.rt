@@ -2,22 +2,18 @@
 #![tactic(auto)]
 
 ghost use Rattle.std.specs.Prelude.{◌≡◌};
+ghost use Rattle.std.specs.declared.result.Result.TheVariants.{Ok};
 ghost use Rattle.replay_c.specs.Replaying.{replayed_said, ReplayTold, RecordTold};
 
-use replay::run::Replayed;
-use told::put::{put_written, refuse4};
+use told::put::{told, written};
 
-fn put_replayed(answer: &mut [u64; 4], replayed: Replayed)
-    ensures { answer.new ≡ replayed_said replayed }
+// The first part whose answer differs.
+fn replayed_numbers(part: Option<usize>) -> [u64; 4]
+    ensures { result ≡ replayed_said (Ok part) }
 {
-    match replayed {
-        Replayed::Refused(r) => refuse4(answer, r),
-        Replayed::Same => {
-            *answer = [0, 0, 0, 0];
-        }
-        Replayed::Differs(part) => {
-            *answer = [0, 0, 1, part as u64];
-        }
+    match part {
+        None => [0, 0, 0, 0],
+        Some(part) => [0, 0, 1, part as u64],
     }
 }
 
@@ -26,7 +22,7 @@ fn put_replayed(answer: &mut [u64; 4], replayed: Replayed)
 pub extern "C" fn wl_replay(recorded: &[u8], product: &[u8], answer: &mut [u64; 4])
     ensures { ReplayTold recorded.now product.now answer.new }
 {
-    put_replayed(answer, replay::run::replay(recorded, product));
+    *answer = told(replay::run::replay(recorded, product), replayed_numbers);
 }
 
 // The record of the product's arrival in parts of these lengths, at the start of the room: 0, 0, the bytes written, 0.
@@ -40,5 +36,5 @@ pub extern "C" fn wl_record_arrival(
     ensures { RecordTold lengths.now product.now room.old room.new
         answer.new }
 {
-    put_written(answer, replay::write::write_record(lengths, product, room));
+    *answer = written(replay::write::write_record(lengths, product, room));
 }

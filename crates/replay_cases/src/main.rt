@@ -3,20 +3,19 @@
 // the record or the lengths, and the rooms (tools/replay-cases says which and writes them).
 #![tactic(auto)]
 
+use calendar::Refusal;
 use cases::input::{byte, fitting, is_same, read, read_part, word};
 use cases::print::{number, refusal, say};
-use meter::integer::Written;
-use replay::run::Replayed;
 use std::io;
 use std::io::{Read, Write};
 
 const FILL: u8 = 0xaa;
 
-fn print_replayed<W: Write>(out: &mut W, answer: Replayed) -> io::Result<()> {
+fn print_replayed<W: Write>(out: &mut W, answer: Result<Option<usize>, Refusal>) -> io::Result<()> {
     match answer {
-        Replayed::Refused(r) => refusal(out, r)?,
-        Replayed::Same => say(out, b" none")?,
-        Replayed::Differs(part) => {
+        Err(r) => refusal(out, r)?,
+        Ok(None) => say(out, b" none")?,
+        Ok(Some(part)) => {
             say(out, b" part")?;
             number(out, part as u64)?;
         }
@@ -24,13 +23,13 @@ fn print_replayed<W: Write>(out: &mut W, answer: Replayed) -> io::Result<()> {
     say(out, b"\n")
 }
 
-fn print_written<W: Write>(out: &mut W, answer: Written) -> io::Result<()> {
+fn print_written<W: Write>(out: &mut W, answer: Result<usize, Refusal>) -> io::Result<()> {
     match answer {
-        Written::Bytes(n) => {
+        Ok(n) => {
             say(out, b" record")?;
             number(out, n as u64)
         }
-        Written::Refused(r) => refusal(out, r),
+        Err(r) => refusal(out, r),
     }
 }
 
@@ -79,10 +78,8 @@ fn run_room<R: Read, W: Write>(
 
 // The numbers of 4 bytes, one to a place, and zeros after them.
 fn fill(lengths: &mut [u32], given: &[u8]) {
-    let mut i: usize = 0;
-    while i < lengths.len() {
-        lengths[i] = (word(given, 4 * i, 4) % 0x1_0000_0000) as u32;
-        i += 1;
+    for (i, length) in lengths.iter_mut().enumerate() {
+        *length = (word(given, 4 * i, 4) % 0x1_0000_0000) as u32;
     }
 }
 
@@ -93,10 +90,8 @@ fn run_rooms<R: Read, W: Write>(
     lengths: &[u32],
     product: &[u8],
 ) -> io::Result<()> {
-    let mut i: u64 = 0;
-    while i < rooms {
+    for _ in 0..rooms {
         run_room(input, out, lengths, product)?;
-        i += 1;
     }
     Ok(())
 }

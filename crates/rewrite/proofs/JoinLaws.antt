@@ -8,11 +8,9 @@ use mathlib.Core.List.{List, ◌++◌}
 use lib.ListN.{length, take, drop, length-append}
 use lib.Seq.{take_at}
 use Rattle.calendar.specs.declared.Refusal.{Refusal}
-use Rattle.meter.specs.declared.integer.Written.{Written}
-use Rattle.meter.specs.declared.integer.Written.TheVariants as W
+use Rattle.std.specs.declared.result.Result.TheVariants.{Ok, Err}
+use Rattle.std.specs.declared.result.Result.{Result}
 use Rattle.finish.specs.Finish.{VerdictIs}
-use Rattle.finish.specs.declared.Finished.{Finished}
-use Rattle.finish.specs.declared.Finished.TheVariants as F
 use Rattle.demands.specs.Product.{Meets}
 use Rattle.demands.proofs.Accepted.{one_list, meets_fit, one_refused}
 use Rattle.demands.proofs.Verdict.{product_verdict}
@@ -26,7 +24,7 @@ use Rattle.parts.proofs.GranuleLaws.{alike_granules, in_time_granules}
 use Rattle.rewrite.specs.Join.{PartsJoin, unlike, out_of_time, too_much, no_room, written, JoinIs, first_unfit, second_unfit, both, JoinResult}
 
 -- ---- NO SECOND ANSWER FITS, of two products
-one_parts : {i : Bool} {m n : List ℕ} {rs ss : List (List ℕ)} {room : List ℕ} {r s : Written} {x y : List ℕ} → PartsJoin i m n rs ss room r x → PartsJoin i m n rs ss room s y → (r ≡ s) × (x ≡ y)
+one_parts : {i : Bool} {m n : List ℕ} {rs ss : List (List ℕ)} {room : List ℕ} {r s : Result ℕ Refusal} {x y : List ℕ} → PartsJoin i m n rs ss room r x → PartsJoin i m n rs ss room s y → (r ≡ s) × (x ≡ y)
 one_parts (unlike d) (unlike e) = (refl, refl)
 one_parts (unlike d) (out_of_time a t) = absurd (d a)
 one_parts (unlike d) (too_much a t h) = absurd (d a)
@@ -54,30 +52,30 @@ one_parts (written d a t h k i) (no_room b u g l) = absurd (omega arith)
 one_parts {m = m} {rs = rs} {ss = ss} {room = room} (written d a t h k i) (written c b u g l j) = (refl, ap (λ (z : List ℕ). z ++ drop (join_size m rs ss) room) (one_join i j))
 
 -- another proof that the two are products has the same parts
-moved : {i : Bool} {a b room : List ℕ} {r : Written} {x : List ℕ} (t t' : Meets a) (u u' : Meets b) → PartsJoin i (main_of a) (main_of b) (records_at a t.list) (records_at b u.list) room r x → PartsJoin i (main_of a) (main_of b) (records_at a t'.list) (records_at b u'.list) room r x
+moved : {i : Bool} {a b room : List ℕ} {r : Result ℕ Refusal} {x : List ℕ} (t t' : Meets a) (u u' : Meets b) → PartsJoin i (main_of a) (main_of b) (records_at a t.list) (records_at b u.list) room r x → PartsJoin i (main_of a) (main_of b) (records_at a t'.list) (records_at b u'.list) room r x
 moved {i} {a} {b} {room} {r} {x} t t' u u' p =
     subst (λ (l : List ℕ). PartsJoin i (main_of a) (main_of b) (records_at a t'.list) (records_at b l) room r x) (one_list u u')
     (subst (λ (l : List ℕ). PartsJoin i (main_of a) (main_of b) (records_at a l) (records_at b u.list) room r x) (one_list t t') p)
 
 -- ---- NO SECOND ANSWER FITS
-pub unique_join : {i : Bool} (a b room : List ℕ) (r s : Written) (x y : List ℕ) → JoinIs i a b room r x → JoinIs i a b room s y → (r ≡ s) × (x ≡ y)
-unique_join a b room r s x y (first_unfit q g) (first_unfit p h) = (ap W.Refused (one_refused q p g h), refl)
+pub unique_join : {i : Bool} (a b room : List ℕ) (r s : Result ℕ Refusal) (x y : List ℕ) → JoinIs i a b room r x → JoinIs i a b room s y → (r ≡ s) × (x ≡ y)
+unique_join a b room r s x y (first_unfit q g) (first_unfit p h) = (ap Err (one_refused q p g h), refl)
 unique_join a b room r s x y (first_unfit q g) (second_unfit p t h) = absurd (meets_fit t q g)
 unique_join a b room r s x y (first_unfit q g) (both t u p) = absurd (meets_fit t q g)
 unique_join a b room r s x y (second_unfit q t g) (first_unfit p h) = absurd (meets_fit t p h)
-unique_join a b room r s x y (second_unfit q t g) (second_unfit p u h) = (ap W.Refused (one_refused q p g h), refl)
+unique_join a b room r s x y (second_unfit q t g) (second_unfit p u h) = (ap Err (one_refused q p g h), refl)
 unique_join a b room r s x y (second_unfit q t g) (both u v p) = absurd (meets_fit v q g)
 unique_join a b room r s x y (both t u p) (first_unfit q h) = absurd (meets_fit t q h)
 unique_join a b room r s x y (both t u p) (second_unfit q v h) = absurd (meets_fit u q h)
 unique_join a b room r s x y (both t u p) (both v w q) = one_parts (moved t v u w p) q
 
 -- ---- A REFUSAL LEAVES THE ROOM AS IT CAME
-pub join_refusal_keeps : {i : Bool} {a b room exit : List ℕ} (r : Refusal) (s : Written) → s ≡ W.Refused r → JoinIs i a b room s exit → exit ≡ room
+pub join_refusal_keeps : {i : Bool} {a b room exit : List ℕ} (r : Refusal) (s : Result ℕ Refusal) → s ≡ Err r → JoinIs i a b room s exit → exit ≡ room
 join_refusal_keeps r s e (first_unfit q _) = refl
 join_refusal_keeps r s e (second_unfit q _ _) = refl
 join_refusal_keeps r s e (both t u p) = go e p
   where
-    go : {i : Bool} {m n : List ℕ} {rs ss : List (List ℕ)} {room exit : List ℕ} {s : Written} → s ≡ W.Refused r → PartsJoin i m n rs ss room s exit → exit ≡ room
+    go : {i : Bool} {m n : List ℕ} {rs ss : List (List ℕ)} {room exit : List ℕ} {s : Result ℕ Refusal} → s ≡ Err r → PartsJoin i m n rs ss room s exit → exit ≡ room
     go e (unlike _) = refl
     go e (out_of_time _ _) = refl
     go e (too_much _ _ _) = refl
@@ -85,15 +83,15 @@ join_refusal_keeps r s e (both t u p) = go e p
     go e (written c _ _ _ _ _) = absurd (let z : ◌≡◌ {A = ℕ} 0 1 = cc in omega arith)
 
 -- ---- WHAT IS WRITTEN
-pub join_written : {i : Bool} {a b room exit : List ℕ} (k : ℕ) (s : Written) → s ≡ W.Bytes k → JoinIs i a b room s exit → JoinResult i a b room k exit
+pub join_written : {i : Bool} {a b room exit : List ℕ} (k : ℕ) (s : Result ℕ Refusal) → s ≡ Ok k → JoinIs i a b room s exit → JoinResult i a b room k exit
 join_written k s e (first_unfit q _) = absurd (let z : ◌≡◌ {A = ℕ} 0 1 = cc in omega arith)
 join_written k s e (second_unfit q _ _) = absurd (let z : ◌≡◌ {A = ℕ} 0 1 = cc in omega arith)
 join_written {i} {a} {b} {room} {exit} k s e (both t u p) = go e p
   where
-    bytes_of : {i j : ℕ} → W.Bytes i ≡ W.Bytes j → i ≡ j
+    bytes_of : {i j : ℕ} → ◌≡◌ {A = Result ℕ Refusal} (Ok i) (Ok j) → i ≡ j
     bytes_of e = cc
 
-    go : {s : Written} {exit : List ℕ} → s ≡ W.Bytes k → PartsJoin i (main_of a) (main_of b) (records_at a t.list) (records_at b u.list) room s exit → JoinResult i a b room k exit
+    go : {s : Result ℕ Refusal} {exit : List ℕ} → s ≡ Ok k → PartsJoin i (main_of a) (main_of b) (records_at a t.list) (records_at b u.list) room s exit → JoinResult i a b room k exit
     go e (unlike _) = absurd (let z : ◌≡◌ {A = ℕ} 0 1 = cc in omega arith)
     go e (out_of_time _ _) = absurd (let z : ◌≡◌ {A = ℕ} 0 1 = cc in omega arith)
     go e (too_much _ _ _) = absurd (let z : ◌≡◌ {A = ℕ} 0 1 = cc in omega arith)
@@ -117,9 +115,9 @@ join_product {a = a} {b = b} w = pass_product (meets_built a w.first) (meets_bui
 pub join_left : {i : Bool} {a b room exit : List ℕ} {k : ℕ} (w : JoinResult i a b room k exit) → take k exit ≡ w.text
 join_left {room = room} {k = k} w = ap (take k) w.stands ∙ take_at w.text (drop k room) k (sym (join_sized w))
 
-pub join_accepted : {i : Bool} {a b room exit : List ℕ} {k : ℕ} → JoinIs i a b room (W.Bytes k) exit → (r : Finished) → VerdictIs (take k exit) r → (c : ℕ) × (r ≡ F.Accepted c)
+pub join_accepted : {i : Bool} {a b room exit : List ℕ} {k : ℕ} → JoinIs i a b room (Ok k) exit → (r : Result ℕ Refusal) → VerdictIs (take k exit) r → (c : ℕ) × (r ≡ Ok c)
 join_accepted {k = k} j r v =
-    let w = join_written k (W.Bytes k) refl j in
+    let w = join_written k (Ok k) refl j in
     let t = join_product w in
     (suc (length t.list), product_verdict w.text t r (subst (λ (c : List ℕ). VerdictIs c r) (join_left w) v))
 
@@ -138,20 +136,20 @@ module _ {i : Bool} {a b room exit : List ℕ} {k : ℕ} (w : JoinResult i a b r
   join_result_sphr = pass_sphr (meets_built a w.first) (meets_built b w.second) w.joinable w.join t
 
 -- ---- WHEREVER REQUEST SEVEN'S JOIN WRITES, THAT OF A PASS WRITES THE SAME BYTES
-pub join_is_pass : {a b room exit : List ℕ} (k : ℕ) (s : Written) → s ≡ W.Bytes k → JoinIs identical a b room s exit → JoinIs granules a b room s exit
+pub join_is_pass : {a b room exit : List ℕ} (k : ℕ) (s : Result ℕ Refusal) → s ≡ Ok k → JoinIs identical a b room s exit → JoinIs granules a b room s exit
 join_is_pass k s e (first_unfit q _) = absurd (let z : ◌≡◌ {A = ℕ} 0 1 = cc in omega arith)
 join_is_pass k s e (second_unfit q _ _) = absurd (let z : ◌≡◌ {A = ℕ} 0 1 = cc in omega arith)
 join_is_pass {a} {b} {room} k s e (both t u p) = both t u (go e p)
   where
-    go : {s : Written} {exit : List ℕ} → s ≡ W.Bytes k → PartsJoin identical (main_of a) (main_of b) (records_at a t.list) (records_at b u.list) room s exit → PartsJoin granules (main_of a) (main_of b) (records_at a t.list) (records_at b u.list) room s exit
+    go : {s : Result ℕ Refusal} {exit : List ℕ} → s ≡ Ok k → PartsJoin identical (main_of a) (main_of b) (records_at a t.list) (records_at b u.list) room s exit → PartsJoin granules (main_of a) (main_of b) (records_at a t.list) (records_at b u.list) room s exit
     go e (unlike _) = absurd (let z : ◌≡◌ {A = ℕ} 0 1 = cc in omega arith)
     go e (out_of_time _ _) = absurd (let z : ◌≡◌ {A = ℕ} 0 1 = cc in omega arith)
     go e (too_much _ _ _) = absurd (let z : ◌≡◌ {A = ℕ} 0 1 = cc in omega arith)
     go e (no_room _ _ _ _) = absurd (let z : ◌≡◌ {A = ℕ} 0 1 = cc in omega arith)
     go e (written c al ti h l j) = written c (alike_granules al) (in_time_granules (meets_built a t) (meets_built b u) ti) h l j
 
-pub join_pass_same : {a b room x y : List ℕ} {s : Written} (k : ℕ) → JoinIs identical a b room (W.Bytes k) x → JoinIs granules a b room s y → (W.Bytes k ≡ s) × (x ≡ y)
-join_pass_same {a} {b} {room} {x} {y} {s} k p q = unique_join a b room (W.Bytes k) s x y (join_is_pass k (W.Bytes k) refl p) q
+pub join_pass_same : {a b room x y : List ℕ} {s : Result ℕ Refusal} (k : ℕ) → JoinIs identical a b room (Ok k) x → JoinIs granules a b room s y → (Ok k ≡ s) × (x ≡ y)
+join_pass_same {a} {b} {room} {x} {y} {s} k p q = unique_join a b room (Ok k) s x y (join_is_pass k (Ok k) refl p) q
 
 -- ---- "Where both ways of joining three products are accepted, the bytes are the same": a with b, and b with c, were written; then that with c, and a with
 -- this. What a way is refused for, the other may not be: the law is of the bytes where neither is. Whichever of the two joins each of the four is

@@ -14,9 +14,11 @@ use borrow.Author.Tests.{ne_eqb}
 use lib.Dec.{eqb}
 use lib.ListN.{length, get_or, set, take, drop, length-append, length-set}
 use lib.Seq.{sets, sets-eq, take_all, get_or-set_same, get_or-set_other}
+use Rattle.std.specs.declared.result.Result.TheVariants.{Ok}
+use Rattle.std.specs.declared.option.Option.{Option}
+use Rattle.std.specs.declared.result.Result.{Result}
+use Rattle.calendar.specs.declared.Refusal.{Refusal}
 use Rattle.meter.specs.declared.time.Time.{Time}
-use Rattle.meter.specs.declared.integer.Written.{Written}
-use Rattle.meter.specs.declared.integer.Written.TheVariants as W
 use Rattle.demands.specs.Product.{class, Meets}
 use Rattle.demands.proofs.Accepted.{one_list}
 use Rattle.parts.specs.Parts.{joined, bytes, bytes_of, Own, count, main_of, records_at}
@@ -136,22 +138,12 @@ module _ {a b : List ℕ} {x y : Sections} (s : Sections2 a b x y) where
       → SeenIs i (take x.global (drop (3307 + x.sphr + x.ipr) a)) (take x.global (drop (3307 + y.sphr + y.ipr) b)) r → LikeIs i a b r
   like_last i e g d t c = told (decides_as (λ w. record { sphr = (front_decides i e d).right t; global = w }) (λ l. l.global) (global_decides i g c))
 
--- ---- ALIKE
-pub alike_fields : {a b : List ℕ} {i r : Bool} → Decides (FourAgree (main_of a) (main_of b)) r → r ≡ false → AlikeIs i a b false
-alike_fields d e t = no_it_is (λ l. d.wrong e l.fields)
-
-pub alike_last : {a b : List ℕ} {i q r : Bool} → Decides (FourAgree (main_of a) (main_of b)) q → q ≡ true → LikeIs i a b r → AlikeIs i a b r
-alike_last d e l t = decides_as (λ w. record { fields = d.right e; records = w }) (λ w. w.records) (l t)
-
 -- ---- a product can be walked
 pub sectionable : {a : List ℕ} → Meets a → Sectionable a
 sectionable {a} t = record { small = omega (arith, t.come, t.header.most); records = records_at a t.list; walk = walk_first a t; order = (meets_built a t).tiles.order }
 
 pub two_sections : {a b : List ℕ} {x y : Sections} (t : Two a b) → Sectioned a x → Sectioned b y → Sections2 a b x y
 two_sections {a} {b} t f g = record { two = t; first = f.found (records_at a t.first.list) (walk_first a t.first); second = g.found (records_at b t.second.list) (walk_first b t.second) }
-
-pub two_low : (p q : ℕ) → p ≤ 2147483647 → q ≤ 2147483647 → p + q < 18446744073709551616
-two_low p q h l = omega arith
 
 -- ---- headers
 pub two_headers : {a b : List ℕ} → Two a b → Headers (main_of a) (main_of b)
@@ -530,7 +522,7 @@ pub late_is :
     {a b : List ℕ} {x y : Sections} (i : Bool) {r : Bool} (s : Sections2 a b x y) → is_late i x.stop y.start ≡ r
     → is_late i (last_defined_stop (rs_of a b s.two)) (first_defined_start (ss_of a b s.two)) ≡ r
 late_is {a} {b} {x} {y} i s e =
-    ap (λ (t : Time). is_late i t (first_defined_start (ss_of a b s.two))) (sym s.first.stop) ∙ ap (λ (t : Time). is_late i x.stop t) (sym s.second.start) ∙ e
+    ap (λ (t : Option Time). is_late i t (first_defined_start (ss_of a b s.two))) (sym s.first.stop) ∙ ap (λ (t : Option Time). is_late i x.stop t) (sym s.second.start) ∙ e
 
 -- ---- THE ANSWERS
 module _ {a b room : List ℕ} {i : Bool} where
@@ -548,7 +540,7 @@ module _ {a b room : List ℕ} {i : Bool} where
 -- whichever join it is of, where the two are alike and in time
 module _ {a b : List ℕ} {x y : Sections} (m : Matched a b x y) where
   pub matched_is :
-      {room exit : List ℕ} {r : Written}
+      {room exit : List ℕ} {r : Result ℕ Refusal}
       → ((i : Bool) → Alike i (main_of a) (main_of b) (rs_of a b m.found.two) (ss_of a b m.found.two) → InTime i (rs_of a b m.found.two) (ss_of a b m.found.two) → JoinIs i a b room r exit)
       → MatchedIs a b room r exit
   matched_is f i t al ti =
@@ -571,7 +563,7 @@ module _ {a b : List ℕ} {x y : Sections} (m : Matched a b x y) where
 
     pub says_written :
         {at size : ℕ} {totals exit : List ℕ} → Planned (main_of a) (only is_sphr (rs_of a b m.found.two)) (together (rs_of a b m.found.two) (ss_of a b m.found.two)) (length room) at size totals
-        → PutsJoin a b room exit → JoinIs i a b room (W.Bytes size) exit
+        → PutsJoin a b room exit → JoinIs i a b room (Ok size) exit
     says_written {at} {size} {totals} {exit} p q =
         let t = q.two in
         let k = m.found.two in
@@ -588,8 +580,8 @@ module _ {a b : List ℕ} {x y : Sections} (m : Matched a b x y) where
         ∙ ap (λ (u : List ℕ). u ++ c ++ drop (0 + length c) room) (take-zero room)
         ∙ ap (λ (v : ℕ). c ++ drop v room) z in
         let lines = subst (λ (u : List (List ℕ)). Rewritten (main_of a) q.header (join_values (main_of a) (main_of b) rs u)) (second_same t k) (subst (λ (u : List (List ℕ)). Rewritten (main_of a) q.header (join_values (main_of a) (main_of b) u (ss_of a b t))) (first_same t k) q.lines) in
-        let w : PartsJoin i (main_of a) (main_of b) rs ss room (W.Bytes n) (c ++ drop n room) = written c al ti record { holdable = p.holdable; sums = m.sums } (omega (arith, p.fits, p.size_is)) record { header = q.header; lines = lines; whole = refl } in
-        both k.first k.second (subst (λ (u : List ℕ). PartsJoin i (main_of a) (main_of b) rs ss room (W.Bytes size) u) (sym e) (subst (λ (v : ℕ). PartsJoin i (main_of a) (main_of b) rs ss room (W.Bytes v) (c ++ drop n room)) (sym p.size_is) w))
+        let w : PartsJoin i (main_of a) (main_of b) rs ss room (Ok n) (c ++ drop n room) = written c al ti record { holdable = p.holdable; sums = m.sums } (omega (arith, p.fits, p.size_is)) record { header = q.header; lines = lines; whole = refl } in
+        both k.first k.second (subst (λ (u : List ℕ). PartsJoin i (main_of a) (main_of b) rs ss room (Ok size) u) (sym e) (subst (λ (v : ℕ). PartsJoin i (main_of a) (main_of b) rs ss room (Ok v) (c ++ drop n room)) (sym p.size_is) w))
       where
         take-zero : (v : List ℕ) → take 0 v ≡ []
         take-zero [] = refl
@@ -598,6 +590,3 @@ module _ {a b : List ℕ} {x y : Sections} (m : Matched a b x y) where
 -- the same, at the code's names
 pub kept_at : {fs ks : List (List ℕ)} {table tally : List ℕ} {front k n records : ℕ} → k ≡ n → Collected fs ks table tally front k records → Collected fs ks table tally front n records
 kept_at {fs} {ks} {table} {tally} {front} {records = records} e c = subst (λ (i : ℕ). Collected fs ks table tally front i records) e c
-
-pub answer_at : {i : Bool} {a b room exit : List ℕ} {r s : Written} → r ≡ s → JoinIs i a b room s exit → JoinIs i a b room r exit
-answer_at {i} {a} {b} {room} {exit} e c = subst (λ (x : Written). JoinIs i a b room x exit) (sym e) c

@@ -16,21 +16,22 @@ use Rattle.meter.specs.Lent.{wrote}
 use Rattle.meter.specs.Time.{is_time}
 use Rattle.meter.specs.General.{general_of, minute_of, moment_of, put_general, put_moment, put_digits, put_x}
 use Rattle.meter.specs.declared.general.Moment.{Moment}
+use Rattle.std.specs.declared.option.Option.TheVariants.{Some, None}
+use Rattle.std.specs.declared.result.Result.TheVariants.{Ok, Err}
+use Rattle.std.specs.declared.option.Option.{Option}
+use Rattle.std.specs.declared.result.Result.{Result}
+use Rattle.std.specs.Prelude.{ℤ}
 use Rattle.meter.specs.declared.time.Time.{Time}
-use Rattle.meter.specs.declared.time.Time.TheVariants as T
+use Rattle.calendar.specs.Said.{said}
 use Rattle.meter.proofs.GeneralWrite.{general_length}
 use Rattle.record.proofs.FieldLaws.{both}
 use Rattle.text.specs.Writing.{fits_number, put_number}
-use Rattle.text.specs.declared.Number.{Number}
-use Rattle.text.specs.declared.Number.TheVariants as N
 use Rattle.text.proofs.Back.{number_length}
 use Rattle.mphr.specs.Lines.{is_long}
 use Rattle.demands.specs.Product.{MainHeader}
 use Rattle.parts.specs.Parts.{main_of}
-use Rattle.mphr.specs.Layout.{fields, widths, kinds, width_of, kind_of, line_start, field_of, said_place}
+use Rattle.mphr.specs.Layout.{fields, widths, kinds, width_of, kind_of, line_start, field_of}
 use Rattle.mphr.specs.declared.layout.Place.{Place}
-use Rattle.mphr.specs.declared.layout.FieldPlace.{FieldPlace}
-use Rattle.mphr.specs.declared.layout.FieldPlace.TheVariants as P
 use Rattle.mphr.proofs.LayoutLaws.{start_next, start_mono, start_72}
 use Rattle.parts.specs.Rewritten.{value_of, Value, text, time, spelling, whole, Rewritten, anew, values_of}
 use Rattle.parts.specs.CutHeader.{to_second, stamp, renamed}
@@ -74,34 +75,34 @@ module _ (day ms : ℕ) where
       ap (λ (n : ℕ). n - 60 * minute_of ms) d ∙ ap (λ (n : ℕ). ms / 1000 * 1000 / 1000 - 60 * n) same_minute
 
 pub stamp_is :
-    (t : Time) (x : List ℕ) → x ≡ put_general 17 (replicate 18 0) (general_of t)
+    (t : Option Time) (x : List ℕ) → x ≡ put_general 17 (replicate 18 0) (general_of t)
     → sets (replicate 15 90) 0 (take 14 (drop 0 x)) ≡ stamp (to_second t)
 unfolding put_x
-stamp_is T.Undefined x e = rw e refl
-stamp_is (T.At day ms) x e =
-    first_digits (moment_of day ms) (moment_of day (ms / 1000 * 1000)) x (same_date day ms) (same_hour day ms) (same_in_hour day ms) (same_second day ms) e
+stamp_is None x e = rw e refl
+stamp_is (Some t) x e =
+    first_digits (moment_of t.day t.milli) (moment_of t.day (t.milli / 1000 * 1000)) x (same_date t.day t.milli) (same_hour t.day t.milli) (same_in_hour t.day t.milli) (same_second t.day t.milli) e
 
 -- what `meter` writes of a time that is right
-pub text_wrote : (t : Time) → is_time t ≡ true → wrote (replicate 18 0) 18 (is_time t) (put_general 17 (replicate 18 0) (general_of t)) ≡ put_general 17 (replicate 18 0) (general_of t)
+pub text_wrote : (t : Option Time) → is_time t ≡ true → wrote (replicate 18 0) 18 (is_time t) (put_general 17 (replicate 18 0) (general_of t)) ≡ put_general 17 (replicate 18 0) (general_of t)
 text_wrote t e = rw e refl
 
 -- ---- where a line stands
-pub place_is : (k : ℕ) (r : FieldPlace) (p : Place) → k < 72 → r ≡ P.Place p → said_place r ≡ field_of k → (p.start ≡ line_start k) × (p.width ≡ width_of k)
+pub place_is : (k : ℕ) (r : Result Place Refusal) (p : Place) → k < 72 → r ≡ Ok p → said r ≡ field_of k → (p.start ≡ line_start k) × (p.width ≡ width_of k)
 place_is k r p h e s =
     let q : Place = record { start = line_start k; width = width_of k; kind = kind_of k } in
     let f : field_of k ≡ answer q = rw (le-leb k 71 (omega arith)) refl in
-    let b : answer p ≡ answer q = sym (ap said_place e) ∙ s ∙ f in
+    let b : answer p ≡ answer q = sym (ap said e) ∙ s ∙ f in
     let d : p ≡ q = answered b in
     (ap (λ (x : Place). x.start) d, ap (λ (x : Place). x.width) d)
   where
     answered : {p q : Place} → answer p ≡ answer q → p ≡ q
     answered e = cc
 
-pub place_lost : (k : ℕ) (r : FieldPlace) (x : Refusal) → k < 72 → r ≡ P.Refused x → said_place r ≡ field_of k → ⊥
+pub place_lost : (k : ℕ) (r : Result Place Refusal) (x : Refusal) → k < 72 → r ≡ Err x → said r ≡ field_of k → ⊥
 place_lost k r x h e s =
     let q : Place = record { start = line_start k; width = width_of k; kind = kind_of k } in
     let f : field_of k ≡ answer q = rw (le-leb k 71 (omega arith)) refl in
-    never x q (sym (ap said_place e) ∙ s ∙ f)
+    never x q (sym (ap said e) ∙ s ∙ f)
   where
     never : (x : Refusal) (q : Place) → refused x ≡ answer q → ⊥
     never x q e = let z : ◌≡◌ {A = ℕ} 0 1 = cc in omega arith
@@ -130,14 +131,14 @@ pub zeros_long : (w : ℕ) → w ≤ 17 → w ≡ length (take w (replicate {A =
 zeros_long w h = sym (ap length (zeros w 17 h) ∙ length-replicate w 0)
 
 -- what `text` writes of a number that fits
-pub number_wrote : (w k : ℕ) (x : Number) (r : List ℕ) → w ≡ width_of k → NumberFor k x → r ≡ wrote (take w (replicate 17 0)) w (fits_number false w x) (put_number w (take w (replicate 17 0)) x) → r ≡ put_number (width_of k) (replicate (width_of k) 0) x
+pub number_wrote : (w k : ℕ) (x : Option ℤ) (r : List ℕ) → w ≡ width_of k → NumberFor k x → r ≡ wrote (take w (replicate 17 0)) w (fits_number false w x) (put_number w (take w (replicate 17 0)) x) → r ≡ put_number (width_of k) (replicate (width_of k) 0) x
 number_wrote w k x r e n s =
     let z = zeros w 17 (omega (arith, n.narrow)) in
     let l : leb w (length (replicate {A = ℕ} w 0)) ≡ true = le-leb w (length (replicate {A = ℕ} w 0)) (omega (arith, length-replicate {A = ℕ} w 0)) in
     let f : fits_number false w x ≡ true = ap (λ (v : ℕ). fits_number false v x) e ∙ n.fits in
     s ∙ rw (z, f, l) (ap (λ (v : ℕ). put_number v (replicate v 0) x) e)
 
-pub number_long : (k : ℕ) (x : Number) → length (put_number (width_of k) (replicate (width_of k) 0) x) ≡ width_of k
+pub number_long : (k : ℕ) (x : Option ℤ) → length (put_number (width_of k) (replicate (width_of k) 0) x) ≡ width_of k
 number_long k x = number_length (width_of k) (replicate (width_of k) 0) x ∙ length-replicate (width_of k) 0
 
 -- ---- the name
@@ -195,7 +196,7 @@ unknown_widths : T (below (λ (j : ℕ). ltb 0 (width_of (64 + j)) && leb (width
 unfolding width_of widths fields
 unknown_widths = tt
 
-pub unknown_for : (j : ℕ) → j < 7 → NumberFor (64 + j) N.Undefined
+pub unknown_for : (j : ℕ) → j < 7 → NumberFor (64 + j) None
 unknown_for j h =
     let t = both-T (ltb 0 (width_of (64 + j))) (leb (width_of (64 + j)) 17) (at (λ (j : ℕ). ltb 0 (width_of (64 + j)) && leb (width_of (64 + j)) 17) 7 unknown_widths j h) in
     record { line = omega arith; narrow = leb-true (width_of (64 + j)) 17 t.1; fits = rw (t.0, t.1) refl }
@@ -214,10 +215,10 @@ total_widths = tt
 pub total_width : (j : ℕ) → j < 9 → width_of (55 + j) ≡ 6
 total_width j h = eqb→eq _ _ (at (λ (j : ℕ). eqb (width_of (55 + j)) 6) 9 total_widths j h)
 
-pub total_for : (j n : ℕ) → j < 9 → n ≤ 999999 → NumberFor (55 + j) (N.Whole (pos n))
+pub total_for : (j n : ℕ) → j < 9 → n ≤ 999999 → NumberFor (55 + j) (Some (pos n))
 total_for j n h l = let e = total_width j h in record { line = omega arith; narrow = omega arith; fits = rw e (lt-ltb n 1000000 (omega arith)) }
 
-pub size_for : (n : ℕ) → n ≤ 2147483647 → NumberFor 28 (N.Whole (pos n))
+pub size_for : (n : ℕ) → n ≤ 2147483647 → NumberFor 28 (Some (pos n))
 unfolding width_of widths fields
 size_for n l = record { line = omega arith; narrow = omega arith; fits = lt-ltb n 100000000000 (omega arith) }
 
@@ -248,7 +249,7 @@ pub adding_last : {t h₀ h : List ℕ} {j : ℕ} → Adding t h₀ h j → j �
 adding_last {t} {h₀} {h} a e = rw e at a.adds
 
 -- ---- the times
-pub stamp_long : (t : Time) → length (stamp (to_second t)) ≡ 15
+pub stamp_long : (t : Option Time) → length (stamp (to_second t)) ≡ 15
 stamp_long t = general_length 14 (replicate 15 0) (to_second t)
 
 pub width_10 : width_of 10 ≡ 15
@@ -259,11 +260,11 @@ pub width_11 : width_of 11 ≡ 15
 unfolding width_of widths fields
 width_11 = refl
 
-spelled_10 : (m : List ℕ) (t : Time) → spelling m 10 (time (to_second t)) ≡ stamp (to_second t)
+spelled_10 : (m : List ℕ) (t : Option Time) → spelling m 10 (time (to_second t)) ≡ stamp (to_second t)
 unfolding width_of widths fields kind_of kinds is_long
 spelled_10 m t = refl
 
-spelled_11 : (m : List ℕ) (t : Time) → spelling m 11 (time (to_second t)) ≡ stamp (to_second t)
+spelled_11 : (m : List ℕ) (t : Option Time) → spelling m 11 (time (to_second t)) ≡ stamp (to_second t)
 unfolding width_of widths fields kind_of kinds is_long
 spelled_11 m t = refl
 
@@ -274,7 +275,7 @@ pub timed_long : (n f l : List ℕ) → length n ≡ 67 → length f ≡ 15 → 
 timed_long n f l e d g = simp (length-append, length-take, length-drop) (omega arith)
 
 pub times_add :
-    (h h₁ h₂ h₃ n x y z : List ℕ) (t u : Time) → x ≡ stamp (to_second t) → y ≡ stamp (to_second u) → z ≡ timed n x y → length n ≡ 67
+    (h h₁ h₂ h₃ n x y z : List ℕ) (t u : Option Time) → x ≡ stamp (to_second t) → y ≡ stamp (to_second u) → z ≡ timed n x y → length n ≡ 67
     → h₁ ≡ sets h (line_start 11 + 32) y → h₂ ≡ sets h₁ (line_start 10 + 32) x → h₃ ≡ sets h₂ (line_start 0 + 32) z → Adds h h₃ (time_lines n t u)
 times_add h h₁ h₂ h₃ n x y z t u ex ey ez ln e₁ e₂ e₃ m l r =
     let a = adds_value h h₁ y 11 (time (to_second u)) (omega arith) (ap length ey ∙ stamp_long u ∙ sym width_11) (λ k. spelled_11 k u ∙ sym ey) e₁ in
@@ -305,7 +306,7 @@ main_name a h =
     byte b j h = rw (name_width, name_start) (get_or-take 67 (drop 52 b) j 0 h ∙ get_or-drop 52 b j 0)
 
 pub header_done :
-    (a h h₀ h₁ h₂ h₃ h₄ : List ℕ) (t u : Time) (totals : List ℕ) (size : ℕ) → 3307 ≤ length a → MainHeader (main_of a) → length h ≡ 3307 → h₀ ≡ sets h 0 (take 3307 (drop 0 a))
+    (a h h₀ h₁ h₂ h₃ h₄ : List ℕ) (t u : Option Time) (totals : List ℕ) (size : ℕ) → 3307 ≤ length a → MainHeader (main_of a) → length h ≡ 3307 → h₀ ≡ sets h 0 (take 3307 (drop 0 a))
     → Adds h₀ h₁ unknown_lines → Adds h₁ h₂ (time_lines (value_of a 0) t u) → Adds h₂ h₃ (total_lines totals 0 9) → Adds h₃ h₄ (number_line 28 (whole_number size))
     → Rewritten (main_of a) h₄ (values_of (lines_by (main_of a) t u totals size))
 header_done a h h₀ h₁ h₂ h₃ h₄ t u totals size l head e c f g k n =

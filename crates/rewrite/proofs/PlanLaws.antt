@@ -10,10 +10,13 @@ use mathlib.Core.List.{List, [], ◌∷◌, ◌++◌, Memᴰ as In}
 use lib.ListN.{length, get_or, take, drop, replicate, length-append}
 use lib.Seq.{sets, sets-eq, take_at, take_all}
 use Rattle.meter.specs.Time.{is_time, time_at, compared}
+use Rattle.std.specs.declared.option.Option.TheVariants.{Some, None}
+use Rattle.std.specs.declared.result.Result.TheVariants.{Ok}
+use Rattle.std.specs.declared.option.Option.{Option}
+use Rattle.std.specs.declared.result.Result.{Result}
+use Rattle.calendar.specs.declared.Refusal.{Refusal}
 use Rattle.meter.specs.declared.time.Time.{Time}
-use Rattle.meter.specs.declared.time.Time.TheVariants as T
-use Rattle.meter.specs.declared.integer.Written.{Written}
-use Rattle.meter.specs.declared.integer.Written.TheVariants as W
+use Rattle.meter.specs.Instant as T
 use Rattle.record.specs.Times.{is_after}
 use Rattle.demands.specs.Product.{Meets}
 use Rattle.demands.proofs.Accepted.{one_list}
@@ -46,23 +49,23 @@ use Rattle.rewrite.proofs.AssembleLaws.{joined_append, assembled_text, pointers_
 use Rattle.rewrite.proofs.KeepLaws.{own_times}
 
 -- ---- times that are right
-picked : (b : Bool) (t u : Time) → is_time t ≡ true → is_time u ≡ true → is_time (cond b t u) ≡ true
+picked : (b : Bool) (t u : Option Time) → is_time t ≡ true → is_time u ≡ true → is_time (cond b t u) ≡ true
 picked true t u e d = e
 picked false t u e d = d
 
-right_sooner : (t u : Time) → is_time t ≡ true → is_time u ≡ true → is_time (sooner t u) ≡ true
-right_sooner T.Undefined u e d = d
-right_sooner (T.At x y) u e d = picked (is_after (compared (T.At x y) u)) u (T.At x y) d e
+right_sooner : (t u : Option Time) → is_time t ≡ true → is_time u ≡ true → is_time (sooner t u) ≡ true
+right_sooner None u e d = d
+right_sooner (Some t) u e d = picked (is_after (compared (T.At t.day t.milli) u)) u (T.At t.day t.milli) d e
 
-right_later : (t u : Time) → is_time t ≡ true → is_time u ≡ true → is_time (later t u) ≡ true
-right_later T.Undefined u e d = d
-right_later (T.At x y) u e d = picked (is_after (compared u (T.At x y))) u (T.At x y) d e
+right_later : (t u : Option Time) → is_time t ≡ true → is_time u ≡ true → is_time (later t u) ≡ true
+right_later None u e d = d
+right_later (Some t) u e d = picked (is_after (compared u (T.At t.day t.milli))) u (T.At t.day t.milli) d e
 
-right_first : (t : Time) (rs : List (List ℕ)) → is_time t ≡ true → ((r : List ℕ) → In r rs → is_time (time_at r 8) ≡ true) → is_time (first_from t rs) ≡ true
+right_first : (t : Option Time) (rs : List (List ℕ)) → is_time t ≡ true → ((r : List ℕ) → In r rs → is_time (time_at r 8) ≡ true) → is_time (first_from t rs) ≡ true
 right_first t [] e f = e
 right_first t (r ∷ rs) e f = right_first (sooner t (time_at r 8)) rs (right_sooner t (time_at r 8) e (f r (top refl))) (λ x n. f x (pop n))
 
-right_last : (t : Time) (rs : List (List ℕ)) → is_time t ≡ true → ((r : List ℕ) → In r rs → is_time (time_at r 14) ≡ true) → is_time (last_from t rs) ≡ true
+right_last : (t : Option Time) (rs : List (List ℕ)) → is_time t ≡ true → ((r : List ℕ) → In r rs → is_time (time_at r 14) ≡ true) → is_time (last_from t rs) ≡ true
 right_last t [] e f = e
 right_last t (r ∷ rs) e f = right_last (later t (time_at r 14)) rs (right_later t (time_at r 14) e (f r (top refl))) (λ x n. f x (pop n))
 
@@ -91,14 +94,14 @@ module _ (a : List ℕ) (w : Window) (t : Meets a) where
 
   -- the times
   pub first_right : is_time (first_start (only (is_chosen w) (records_at a t.list))) ≡ true
-  first_right = right_first T.Undefined (only (is_chosen w) (records_at a t.list)) refl (λ r n. (own_times r (built.tiles.own r (only_in (is_chosen w) r (records_at a t.list) n).0).times).0)
+  first_right = right_first None (only (is_chosen w) (records_at a t.list)) refl (λ r n. (own_times r (built.tiles.own r (only_in (is_chosen w) r (records_at a t.list) n).0).times).0)
 
   pub last_right : is_time (last_stop (only (is_chosen w) (records_at a t.list))) ≡ true
-  last_right = right_last T.Undefined (only (is_chosen w) (records_at a t.list)) refl (λ r n. (own_times r (built.tiles.own r (only_in (is_chosen w) r (records_at a t.list) n).0).times).1)
+  last_right = right_last None (only (is_chosen w) (records_at a t.list)) refl (λ r n. (own_times r (built.tiles.own r (only_in (is_chosen w) r (records_at a t.list) n).0).times).1)
 
   -- the lines
   pub lines_same :
-      (u v : Time) (totals : List ℕ) (size : ℕ) → u ≡ first_start (only (is_chosen w) (records_at a t.list)) → v ≡ last_stop (only (is_chosen w) (records_at a t.list))
+      (u v : Option Time) (totals : List ℕ) (size : ℕ) → u ≡ first_start (only (is_chosen w) (records_at a t.list)) → v ≡ last_stop (only (is_chosen w) (records_at a t.list))
       → TotalsOf (cut_records a w t) totals → size ≡ cut_size a w t
       → lines_by (main_of a) u v totals size ≡ count_lines (cut_records a w t) (other_lines (main_of a) w (records_at a t.list))
   lines_same u v totals size eu ev n es =
@@ -202,7 +205,7 @@ module _ {a : List ℕ} {w : Window} {room : List ℕ} (t : Meets a) (windowed :
   says_unplanned n p (big h) = too_much t windowed h
   says_unplanned n p (long h l) = no_room t windowed h l
 
-  pub says_written : Bytes a → (n : ℕ) (exit : List ℕ) → n ≡ cut_size a w t → Holdable (cut_records a w t) → n ≤ length room → PutsCut a w room exit → CutIs a w room (W.Bytes n) exit
+  pub says_written : Bytes a → (n : ℕ) (exit : List ℕ) → n ≡ cut_size a w t → Holdable (cut_records a w t) → n ≤ length room → PutsCut a w room exit → CutIs a w room (Ok n) exit
   says_written byte n exit e k h p =
       let b = bytes_of p.header (cut_records a w t) in
       let s = same_records w p.product t in
@@ -215,15 +218,11 @@ module _ {a : List ℕ} {w : Window} {room : List ℕ} (t : Meets a) (windowed :
       ∙ ap (λ (y : List ℕ). y ++ b ++ drop (0 + length b) room) (take-zero room)
       ∙ ap (λ (i : ℕ). b ++ drop i room) z in
       let c : IsCut a w b = record { product = p.product; header = p.header; lines = p.lines; whole = ap (bytes_of p.header) (sym s) } in
-      subst (λ (y : List ℕ). CutIs a w room (W.Bytes n) y) (sym x) (subst (λ (i : ℕ). CutIs a w room (W.Bytes i) (b ++ drop (cut_size a w t) room)) (sym e) (written t b windowed k (omega arith) c (town_product byte c (subst Holdable (sym s) k))))
+      subst (λ (y : List ℕ). CutIs a w room (Ok n) y) (sym x) (subst (λ (i : ℕ). CutIs a w room (Ok i) (b ++ drop (cut_size a w t) room)) (sym e) (written t b windowed k (omega arith) c (town_product byte c (subst Holdable (sym s) k))))
     where
       take-zero : (v : List ℕ) → take 0 v ≡ []
       take-zero [] = refl
       take-zero (y ∷ v) = refl
-
--- the same, at the code's names
-pub answer_at : {a : List ℕ} {w : Window} {room exit : List ℕ} {r s : Written} → r ≡ s → CutIs a w room s exit → CutIs a w room r exit
-answer_at {a} {w} {room} {exit} e c = subst (λ (x : Written). CutIs a w room x exit) (sym e) c
 
 -- an empty array
 pub zeros_empty : (n j : ℕ) → get_or (replicate {A = ℕ} n 0) j 0 ≡ 0

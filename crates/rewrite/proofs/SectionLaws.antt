@@ -14,8 +14,10 @@ use lib.Dec.{eqb}
 use lib.ListN.{length, get_or}
 use Rattle.meter.specs.Integer.{be_at}
 use Rattle.meter.specs.Time.{time_at}
+use Rattle.std.specs.declared.option.Option.TheVariants.{None}
+use Rattle.std.specs.declared.option.Option.{Option}
 use Rattle.meter.specs.declared.time.Time.{Time}
-use Rattle.meter.specs.declared.time.Time.TheVariants as T
+use Rattle.meter.specs.Instant as T
 use Rattle.demands.specs.Product.{class, size}
 use Rattle.parts.specs.Parts.{bytes, Follows}
 use Rattle.parts.specs.Only.{only, is_in, is_sphr, is_global, is_variable, is_mdr}
@@ -33,10 +35,10 @@ use Rattle.rewrite.proofs.KeepLaws.{lead_there, start_there, stop_there}
 use Rattle.rewrite.proofs.SurveyLaws.{none_taken, one_taken, bytes_snoc, Step, step}
 
 -- ---- the first start and the last stop of what is left
-undefined_at : (a : List ℕ) (i : ℕ) → eqb (be_at a i 6) 281474976710655 ≡ true → time_at a i ≡ T.Undefined
+undefined_at : (a : List ℕ) (i : ℕ) → eqb (be_at a i 6) 281474976710655 ≡ true → time_at a i ≡ None
 undefined_at a i e = rw e refl
 
-defined_last : (t : Time) (a : List ℕ) (i : ℕ) → eqb (be_at a i 6) 281474976710655 ≡ false → last_of t (time_at a i) ≡ time_at a i
+defined_last : (t : Option Time) (a : List ℕ) (i : ℕ) → eqb (be_at a i 6) 281474976710655 ≡ false → last_of t (time_at a i) ≡ time_at a i
 defined_last t a i e = rw e refl
 
 start_kept : (d m : ℕ) (rs : List (List ℕ)) → first_start_from (T.At d m) rs ≡ T.At d m
@@ -46,14 +48,14 @@ start_kept d m (r ∷ rs) = start_kept d m rs
 -- those from byte i on have the first start of those from byte j on
 pub record Starting (a : List ℕ) (i j : ℕ) : Type 0 where
   pub left : Left a j
-  pub same : (rs : List (List ℕ)) → Walk a i rs → first_start_from T.Undefined rs ≡ first_start_from T.Undefined left.records
+  pub same : (rs : List (List ℕ)) → Walk a i rs → first_start_from None rs ≡ first_start_from None left.records
 
 module _ {a : List ℕ} {i : ℕ} (l : Left a i) where
   one_left : (rs : List (List ℕ)) → Walk a i rs → rs ≡ l.records
   one_left rs w = one_walk rs l.records w l.walk
 
   pub start_first : Starting a i i
-  start_first = record { left = l; same = λ rs w. ap (first_start_from T.Undefined) (one_left rs w) }
+  start_first = record { left = l; same = λ rs w. ap (first_start_from None) (one_left rs w) }
 
   pub stop_first : (p : ℕ) → 3307 ≤ i → p + 20 ≤ length a → Stopping a i p i p
   stop_first p h c = record { after = record { left = l; head = h; come = c }; same = λ rs w. ap (last_stop_from (stop_at a p)) (one_left rs w) }
@@ -81,29 +83,29 @@ module _ {a : List ℕ} {i : ℕ} (l : Left a i) where
 -- what is left after the record at byte i
 record After (a : List ℕ) (i n : ℕ) (rs : List (List ℕ)) : Type 0 where
   pub left : Left a (i + n)
-  pub start : time_at a (i + 8) ≡ T.Undefined → first_start_from T.Undefined rs ≡ first_start_from T.Undefined left.records
-  pub found : (d m : ℕ) → time_at a (i + 8) ≡ T.At d m → first_start_from T.Undefined rs ≡ T.At d m
-  pub stop : (t : Time) → last_stop_from t rs ≡ last_stop_from (last_of t (time_at a (i + 14))) left.records
+  pub start : time_at a (i + 8) ≡ None → first_start_from None rs ≡ first_start_from None left.records
+  pub found : (d m : ℕ) → time_at a (i + 8) ≡ T.At d m → first_start_from None rs ≡ T.At d m
+  pub stop : (t : Option Time) → last_stop_from t rs ≡ last_stop_from (last_of t (time_at a (i + 14))) left.records
 
 after : {a : List ℕ} {i n : ℕ} {rs : List (List ℕ)} → length a ≤ 2147483647 → n ≡ size a i → Next a i rs → After a i n rs
 after {a} {i} {n} small e (next {r = r} {rs = rs} k w) = record {
   left = record { small = small; records = rs; walk = subst (λ (j : ℕ). Walk a (i + j) rs) (sym (e ∙ ahead_size k)) w };
-  start = λ u. ap (λ (t : Time). first_start_from t rs) (sym (start_there k) ∙ u);
-  found = λ d m u. ap (λ (t : Time). first_start_from t rs) (sym (start_there k) ∙ u) ∙ start_kept d m rs;
-  stop = λ t. ap (λ (u : Time). last_stop_from (last_of t u) rs) (sym (stop_there k));
+  start = λ u. ap (λ (t : Option Time). first_start_from t rs) (sym (start_there k) ∙ u);
+  found = λ d m u. ap (λ (t : Option Time). first_start_from t rs) (sym (start_there k) ∙ u) ∙ start_kept d m rs;
+  stop = λ t. ap (λ (u : Option Time). last_stop_from (last_of t u) rs) (sym (stop_there k));
 }
 
 module _ {a : List ℕ} {i j : ℕ} (s : Starting a i j) where
-  pub start_next : (n : ℕ) → j < length a → n ≡ size a j → time_at a (j + 8) ≡ T.Undefined → Starting a i (j + n)
+  pub start_next : (n : ℕ) → j < length a → n ≡ size a j → time_at a (j + 8) ≡ None → Starting a i (j + n)
   start_next n h e u =
       let o = after s.left.small e (walk_next s.left.walk h) in
       record { left = o.left; same = λ rs w. s.same rs w ∙ o.start u }
 
-  pub start_found : (t : Time) (d m : ℕ) → j < length a → t ≡ time_at a (j + 8) → t ≡ T.At d m → FirstStartIs a i t
+  pub start_found : (t : Option Time) (d m : ℕ) → j < length a → t ≡ time_at a (j + 8) → t ≡ T.At d m → FirstStartIs a i t
   start_found t d m h e u rs w = u ∙ sym (s.same rs w ∙ (after {n = size a j} s.left.small refl (walk_next s.left.walk h)).found d m (sym e ∙ u))
 
-  pub start_none : length a ≤ j → FirstStartIs a i T.Undefined
-  start_none h rs w = sym (s.same rs w ∙ ap (first_start_from T.Undefined) (walk_none s.left.walk h))
+  pub start_none : length a ≤ j → FirstStartIs a i None
+  start_none h rs w = sym (s.same rs w ∙ ap (first_start_from None) (walk_none s.left.walk h))
 
 module _ {a : List ℕ} {i p j q : ℕ} (s : Stopping a i p j q) where
   pub stop_next : (r n : ℕ) → j < length a → n ≡ size a j → LaterIs a q j r → Stopping a i p (j + n) r
@@ -111,7 +113,7 @@ module _ {a : List ℕ} {i p j q : ℕ} (s : Stopping a i p j q) where
       let o = after s.after.left.small e (walk_next s.after.left.walk h) in
       record {
         after = record { left = o.left; head = omega (arith, s.after.head); come = ⊎_elim (λ e. omega (arith, s.after.come)) (λ e. omega (arith, left_come s.after.left h)) d.one };
-        same = λ rs w. s.same rs w ∙ o.stop (stop_at a q) ∙ ap (λ (x : Time). last_stop_from x o.left.records) (sym d.stop);
+        same = λ rs w. s.same rs w ∙ o.stop (stop_at a q) ∙ ap (λ (x : Option Time). last_stop_from x o.left.records) (sym d.stop);
       }
 
   pub stop_none : length a ≤ j → (rs : List (List ℕ)) → Walk a i rs → stop_at a q ≡ last_stop_from (stop_at a p) rs
@@ -135,7 +137,7 @@ gone_on {i = i} {j = j} l d = go (ℕ_discrete j i)
 
 -- the place of the last defined stop
 pub later_same : (a : List ℕ) (p i : ℕ) → eqb (be_at a (i + 14) 6) 281474976710655 ≡ true → LaterIs a p i p
-later_same a p i e = record { stop = ap (λ (t : Time). last_of (stop_at a p) t) (sym (undefined_at a (i + 14) e)); one = inl refl }
+later_same a p i e = record { stop = ap (λ (t : Option Time). last_of (stop_at a p) t) (sym (undefined_at a (i + 14) e)); one = inl refl }
 
 pub later_here : (a : List ℕ) (p i : ℕ) → 0 < i → eqb (be_at a (i + 14) 6) 281474976710655 ≡ false → LaterIs a p i i
 later_here a p i h e = record { stop = rw (ne_eqb i 0 (λ d. omega arith)) (sym (defined_last (stop_at a p) a (i + 14) e)); one = inr refl }
@@ -208,10 +210,10 @@ module _ {a : List ℕ} {i n : ℕ} {x : Sections} (m : Sectioning a i x) (h : i
     no_mdr = ne_eqb (class at.one 0) 8 (λ e. omega (arith, classed))
 
     starts : x.start ≡ first_defined_start (m.pre ++ (at.one ∷ []))
-    starts = m.found.start ∙ ap (first_start_from T.Undefined) (sym (none_taken is_mdr m.pre at.one no_mdr))
+    starts = m.found.start ∙ ap (first_start_from None) (sym (none_taken is_mdr m.pre at.one no_mdr))
 
     stops : x.stop ≡ last_defined_stop (m.pre ++ (at.one ∷ []))
-    stops = m.found.stop ∙ ap (last_stop_from T.Undefined) (sym (none_taken is_mdr m.pre at.one no_mdr))
+    stops = m.found.stop ∙ ap (last_stop_from None) (sym (none_taken is_mdr m.pre at.one no_mdr))
 
   module _ (y : Sections) where
     pub turn_sphr : get_or a i 0 < 3 → PartsOf (x.sphr + n) x.ipr x.global x.variable x.start x.stop y → Sectioning a (i + n) y
@@ -264,7 +266,7 @@ module _ {a : List ℕ} {i n : ℕ} {x : Sections} (m : Sectioning a i x) (h : i
         }
 
 -- ---- ALL OF THEM
-pub sections_first : {a : List ℕ} (x : Sections) → Sectionable a → PartsOf 0 0 0 0 T.Undefined T.Undefined x → Sectioning a 3307 x
+pub sections_first : {a : List ℕ} (x : Sections) → Sectionable a → PartsOf 0 0 0 0 None None x → Sectioning a 3307 x
 sections_first x s p = record {
   small = s.small;
   all = s.records;
@@ -302,12 +304,6 @@ module _ {a : List ℕ} {i : ℕ} {x : Sections} (q : FirstMdr a i x) where
   m : Sectioning a i x
   m = q.sectioning
 
-  pub mdr_head : 3307 ≤ i
-  mdr_head = omega (arith, m.below)
-
-  pub mdr_left : Left a i
-  mdr_left = record { small = m.small; records = m.rest; walk = m.walk }
-
   all_mdrs : (r : List ℕ) → In r m.rest → class r 0 ≡ 8
   all_mdrs = go m.rest m.cut (walk_next m.walk q.inside)
     where
@@ -336,14 +332,14 @@ module _ {a : List ℕ} {i : ℕ} {x : Sections} (q : FirstMdr a i x) where
   mdrs_are : only is_mdr (m.pre ++ m.rest) ≡ m.rest
   mdrs_are = only_append is_mdr m.pre m.rest ∙ ap (λ (l : List (List ℕ)). l ++ only is_mdr m.rest) m.no_mdr ∙ only_all is_mdr m.rest (λ r k. eq-eqb (class r 0) 8 (all_mdrs r k))
 
-  pub sections_mdrs : {t u : Time} (y : Sections) → FirstStartIs a i t → LastStopIs a i u → PartsOf x.sphr x.ipr x.global x.variable t u y → Sectioned a y
+  pub sections_mdrs : {t u : Option Time} (y : Sections) → FirstStartIs a i t → LastStopIs a i u → PartsOf x.sphr x.ipr x.global x.variable t u y → Sectioned a y
   sections_mdrs {t} {u} y s e p = record {
     found = λ rs w. rw (one_walk rs m.all w m.start ∙ m.cut) record {
       sphr = p.sphr ∙ kept is_sphr x.sphr (λ r e. ne_eqb (class r 0) 2 (λ d. omega arith)) m.found.sphr;
       ipr = p.ipr ∙ kept (is_in 3 3) x.ipr (λ r e. in_high 3 3 r (omega arith) (omega arith)) m.found.ipr;
       global = p.global ∙ kept is_global x.global (λ r e. in_high 4 5 r (omega arith) (omega arith)) m.found.global;
       variable = p.variable ∙ kept is_variable x.variable (λ r e. in_high 6 7 r (omega arith) (omega arith)) m.found.variable;
-      start = p.start ∙ s m.rest m.walk ∙ ap (first_start_from T.Undefined) (sym mdrs_are);
-      stop = p.stop ∙ e m.rest m.walk ∙ ap (last_stop_from T.Undefined) (sym mdrs_are);
+      start = p.start ∙ s m.rest m.walk ∙ ap (first_start_from None) (sym mdrs_are);
+      stop = p.stop ∙ e m.rest m.walk ∙ ap (last_stop_from None) (sym mdrs_are);
     };
   }

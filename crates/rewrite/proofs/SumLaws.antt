@@ -1,11 +1,10 @@
 -- The lines of a join: sums of two headers, of which a number is one without a sign or all x, and never both; the end time and the name, copied. The lines
 -- set anew one after the other are those of the join. Assumes nothing.
 use Prim.Native.Nat.{ℕ, suc, ◌+◌, ◌-◌, ◌≤◌, ◌<◌}
-use native.Mathlib.Decide.{dec_lt}
 use native.Mathlib.Nat.{pow-le-pow_right}
 use native.Mathlib.Omega.{arith}
 use mathlib.Core.Path.{◌≡◌, refl, sym, ap, subst, ◌∙◌}
-use mathlib.Core.Bool.{Bool, true, false, true≢false, ◌&&◌, ◌||◌}
+use mathlib.Core.Bool.{Bool, true, false, ◌&&◌, ◌||◌}
 use mathlib.Core.List.{List, [], ◌∷◌, ◌++◌}
 use borrow.Author.Tests.{le-leb, leb-true, ltb-true}
 use lib.Dec.{T, leb, ltb}
@@ -21,8 +20,9 @@ use Rattle.text.specs.Field.{is_x, spaces, before, is_number, is_value, count_at
 use Rattle.text.specs.Writing.{fits_number}
 use Rattle.text.specs.declared.Kind.{Kind}
 use Rattle.text.specs.declared.Kind.TheVariants as K
-use Rattle.text.specs.declared.Number.{Number}
-use Rattle.text.specs.declared.Number.TheVariants as N
+use Rattle.std.specs.declared.option.Option.TheVariants.{Some, None}
+use Rattle.std.specs.declared.option.Option.{Option}
+use Rattle.std.specs.Prelude.{ℤ}
 use Rattle.text.proofs.Exact.{count_is, count_small}
 use Rattle.mphr.specs.Layout.{fields, widths, kinds, width_of, kind_of, line_start}
 use Rattle.mphr.specs.Lines.{number_fits}
@@ -33,10 +33,10 @@ use Rattle.parts.specs.Rewritten.{value_of, text, number, copied, fits_line, Rew
 use Rattle.parts.proofs.CutHeaderLaws.{name_width, name_start}
 use Rattle.parts.proofs.Relined.{rewritten_none}
 use Rattle.rewrite.specs.Lining.{Adds, NumberFor, whole_number, number_line, total_lines}
-use Rattle.bytewise.specs.Comparing.{Decides, SameIs}
+use Rattle.bytewise.specs.Comparing.{SameIs}
 use Rattle.rewrite.specs.Joining.{Headers, sum_lines, end_lines, JoinHeaderIs}
 use Rattle.rewrite.proofs.CopyLaws.{part_long}
-use Rattle.bytewise.proofs.CompareLaws.{part_at, no_it_is, yes_it_is}
+use Rattle.bytewise.proofs.CompareLaws.{part_at}
 use Rattle.rewrite.proofs.LineLaws.{adds_value, line_room, whole_text, sets_whole, sets_mid, parted, width_11}
 
 -- ---- a value, by where it stands
@@ -99,7 +99,7 @@ module _ (k : ℕ) (h : 64 ≤ k) (l : k ≤ 70) where
   pub sum_width : width_of k ≤ 8
   sum_width = subst (λ (j : ℕ). width_of j ≤ 8) from_64 (leb-true (width_of (64 + (k - 64))) 8 (is_true (leb (width_of (64 + (k - 64))) 8) (at (λ (j : ℕ). leb (width_of (64 + j)) 8) 7 sum_widths (k - 64) (omega arith))))
 
-  pub sum_fitting : (w : ℕ) (x : Number) → w ≡ width_of k → fits_number false w x ≡ fits_line k (number x)
+  pub sum_fitting : (w : ℕ) (x : Option ℤ) → w ≡ width_of k → fits_number false w x ≡ fits_line k (number x)
   unfolding number_fits
   sum_fitting w x e = rw (e, sum_kind) refl
 
@@ -147,37 +147,22 @@ module _ (k : ℕ) (h : 64 ≤ k) (l : k ≤ 70) where
 
 -- ---- the sum
 module _ (m n : List ℕ) (k : ℕ) where
-  pub sum_x_first : is_x m (line_start k + 32) (width_of k) ≡ true → N.Undefined ≡ added m n k
+  pub sum_x_first : is_x m (line_start k + 32) (width_of k) ≡ true → None ≡ added m n k
   sum_x_first e = rw e refl
 
-  pub sum_x_second : is_x n (line_start k + 32) (width_of k) ≡ true → N.Undefined ≡ added m n k
+  pub sum_x_second : is_x n (line_start k + 32) (width_of k) ≡ true → None ≡ added m n k
   sum_x_second e = go (is_x m (line_start k + 32) (width_of k)) refl
     where
-      go : (b : Bool) → is_x m (line_start k + 32) (width_of k) ≡ b → N.Undefined ≡ added m n k
+      go : (b : Bool) → is_x m (line_start k + 32) (width_of k) ≡ b → None ≡ added m n k
       go true u = rw u refl
       go false u = rw (u, e) refl
 
   pub sum_whole :
       (x y : ℕ) → is_x m (line_start k + 32) (width_of k) ≡ false → is_x n (line_start k + 32) (width_of k) ≡ false → x ≡ number_of m (line_start k + 32) (width_of k)
-      → y ≡ number_of n (line_start k + 32) (width_of k) → N.Whole (pos (x + y)) ≡ added m n k
+      → y ≡ number_of n (line_start k + 32) (width_of k) → Some (pos (x + y)) ≡ added m n k
   sum_whole x y e d u v = rw (e, d, u, v) refl
 
--- ---- all sums fit
-pub sums_no : (m n : List ℕ) (k : ℕ) → 64 ≤ k → k ≤ 70 → fits_line k (number (added m n k)) ≡ false → Decides (SumsFit m n) false
-sums_no m n k h l e = no_it_is (λ f. true≢false (sym (f k h l) ∙ e))
-
-pub sums_yes : (m n : List ℕ) → ((k : ℕ) → 64 ≤ k → k < 71 → fits_line k (number (added m n k)) ≡ true) → Decides (SumsFit m n) true
-sums_yes m n f = yes_it_is (λ k h l. f k h (omega arith))
-
-pub sums_more :
-    (m n : List ℕ) (k : ℕ) → ((j : ℕ) → 64 ≤ j → j < k → fits_line j (number (added m n j)) ≡ true) → fits_line k (number (added m n k)) ≡ true
-    → (j : ℕ) → 64 ≤ j → j < k + 1 → fits_line j (number (added m n j)) ≡ true
-sums_more m n k f e j h l = go (dec_lt j k)
-  where
-    go : Dec (j < k) → fits_line j (number (added m n j)) ≡ true
-    go (yes d) = f j h d
-    go (no d) = let z : j ≡ k = omega (arith, d) in subst (λ (i : ℕ). fits_line i (number (added m n i)) ≡ true) (sym z) e
-
+-- ---- a sum that fits
 pub sum_for : (m n : List ℕ) (k : ℕ) → 64 ≤ k → k ≤ 70 → SumsFit m n → NumberFor k (added m n k)
 sum_for m n k h l f = record { line = omega arith; narrow = omega (arith, sum_width k h l); fits = sum_fitting k h l (width_of k) (added m n k) refl ∙ f k h l }
 

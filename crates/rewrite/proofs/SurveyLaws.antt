@@ -11,8 +11,9 @@ use lib.Dec.{eqb}
 use lib.ListN.{length, get_or, set, length-set, length-append}
 use lib.Seq.{get_or-set_same, get_or-set_other}
 use Rattle.meter.specs.Time.{time_at}
+use Rattle.std.specs.declared.option.Option.TheVariants.{None}
+use Rattle.std.specs.declared.option.Option.{Option}
 use Rattle.meter.specs.declared.time.Time.{Time}
-use Rattle.meter.specs.declared.time.Time.TheVariants as T
 use Rattle.record.specs.Header.{is_group}
 use Rattle.demands.specs.Product.{class, kind, size}
 use Rattle.parts.specs.Parts.{bytes, count}
@@ -48,11 +49,11 @@ pub count_snoc : (c : ℕ) (ks : List (List ℕ)) (r : List ℕ) → count c (ks
 count_snoc c [] r = omega arith
 count_snoc c (x ∷ ks) r = omega (arith, count_snoc c ks r)
 
-first_snoc : (t : Time) (ks : List (List ℕ)) (r : List ℕ) → first_from t (ks ++ (r ∷ [])) ≡ sooner (first_from t ks) (time_at r 8)
+first_snoc : (t : Option Time) (ks : List (List ℕ)) (r : List ℕ) → first_from t (ks ++ (r ∷ [])) ≡ sooner (first_from t ks) (time_at r 8)
 first_snoc t [] r = refl
 first_snoc t (x ∷ ks) r = first_snoc (sooner t (time_at x 8)) ks r
 
-last_snoc : (t : Time) (ks : List (List ℕ)) (r : List ℕ) → last_from t (ks ++ (r ∷ [])) ≡ later (last_from t ks) (time_at r 14)
+last_snoc : (t : Option Time) (ks : List (List ℕ)) (r : List ℕ) → last_from t (ks ++ (r ∷ [])) ≡ later (last_from t ks) (time_at r 14)
 last_snoc t [] r = refl
 last_snoc t (x ∷ ks) r = last_snoc (later t (time_at x 14)) ks r
 
@@ -174,10 +175,10 @@ module _ {w : Window} {pre : List (List ℕ)} {table tally : List ℕ} {v : Sums
   last_aux d = rw (none_taken (is_chosen w) pre r (chosen_no w r d)) f.last
 
   first_mdr : class r 0 ≡ 8 → is_kept w r ≡ true → sooner v.start (time_at r 8) ≡ first_start (only (is_chosen w) (pre ++ (r ∷ [])))
-  first_mdr c k = rw (one_taken (is_chosen w) pre r (chosen_mdr w r c k), f.first) (sym (first_snoc T.Undefined (only (is_chosen w) pre) r))
+  first_mdr c k = rw (one_taken (is_chosen w) pre r (chosen_mdr w r c k), f.first) (sym (first_snoc None (only (is_chosen w) pre) r))
 
   last_mdr : class r 0 ≡ 8 → is_kept w r ≡ true → later v.stop (time_at r 14) ≡ last_stop (only (is_chosen w) (pre ++ (r ∷ [])))
-  last_mdr c k = rw (one_taken (is_chosen w) pre r (chosen_mdr w r c k), f.last) (sym (last_snoc T.Undefined (only (is_chosen w) pre) r))
+  last_mdr c k = rw (one_taken (is_chosen w) pre r (chosen_mdr w r c k), f.last) (sym (last_snoc None (only (is_chosen w) pre) r))
 
 -- ---- the bounds, with one more record of n bytes
 below_same : {i : ℕ} {tally : List ℕ} {v : Sums} (n : ℕ) → Below i tally v → Below (i + n) tally v
@@ -296,7 +297,7 @@ module _ {a : List ℕ} {w : Window} {i : ℕ} {table tally : List ℕ} {v : Sum
         (e ∙ ap (later v.stop) (stop_there at.ahead) ∙ last_mdr m.found at.one o kept_one)
 
 -- ---- ALL OF THEM
-pub survey_first : {a table tally : List ℕ} (w : Window) (v : Sums) → Surveyable a table tally → v.front ≡ 0 → v.kept ≡ 0 → v.records ≡ 0 → v.start ≡ T.Undefined → v.stop ≡ T.Undefined
+pub survey_first : {a table tally : List ℕ} (w : Window) (v : Sums) → Surveyable a table tally → v.front ≡ 0 → v.kept ≡ 0 → v.records ≡ 0 → v.start ≡ None → v.stop ≡ None
     → Surveying a w 3307 table tally v
 survey_first w v s f k n b e = record {
   small = s.small;

@@ -1,15 +1,17 @@
 -- The table of kinds: one more record that is taken changes the place of its kind alone, and only where it had none; the place of a kind; and how many
 -- places are not empty. Assumes nothing.
-use Prim.Native.Nat.{ℕ, suc, ◌+◌, ◌-◌, ◌*◌, ◌/◌, ◌%◌, ◌≤◌, ◌<◌}
+use Prim.Native.Nat.{ℕ, zero, suc, ◌+◌, ◌-◌, ◌*◌, ◌/◌, ◌%◌, ◌≤◌, ◌<◌}
 use native.Mathlib.Decide.{ℕ_discrete}
 use native.Mathlib.Omega.{arith}
 use mathlib.Core.Path.{◌≡◌, refl, sym, ap, ◌∙◌}
-use mathlib.Core.Bool.{Bool, true, false, true≢false, cond}
-use mathlib.Core.List.{List}
+use mathlib.Core.Bool.{Bool, true, false, true≢false, cond, not}
+use mathlib.Core.List.{List, [], ◌∷◌}
 use borrow.Author.Tests.{eq-eqb, ne_eqb, lt-leb}
 use lib.Dec.{eqb}
 use lib.ListN.{length, get_or, set, length-set}
 use lib.Seq.{get_or-set_same, get_or-set_other}
+use Rattle.std.specs.List.{count_by}
+use Rattle.std.proofs.lemmas.List.Sums.{sum_by-cons}
 use Rattle.meter.specs.Integer.{be_at}
 use Rattle.record.specs.Header.{is_group}
 use Rattle.demands.specs.Product.{kind}
@@ -81,14 +83,22 @@ unfolding be_at
 kind_of a i = let e : i + 0 ≡ i = omega arith in rw e (omega arith)
 
 -- ---- how many places are not empty
-pub filled_none : (t : List ℕ) → filled_to t 0 ≡ 0
+first : (x : ℕ) (t : List ℕ) (n : ℕ) → filled_to (x ∷ t) (suc n) ≡ cond (eqb x 0) 0 1 + filled_to t n
 unfolding filled_to
-filled_none t = refl
+first x t zero = omega arith
+first x t (suc n) = omega (arith, first x t n)
 
-pub filled_skip : (t : List ℕ) (j : ℕ) → get_or t j 0 ≡ 0 → filled_to t (j + 1) ≡ filled_to t j
+none : (t : List ℕ) → filled_to t 0 ≡ 0
 unfolding filled_to
-filled_skip t j e = let z : j + 1 ≡ suc j = omega arith in rw (z, eq-eqb (get_or t j 0) 0 e) (omega arith)
+none t = refl
 
-pub filled_more : (t : List ℕ) (j : ℕ) → (get_or t j 0 ≡ 0 → ⊥) → filled_to t (j + 1) ≡ filled_to t j + 1
-unfolding filled_to
-filled_more t j d = let z : j + 1 ≡ suc j = omega arith in rw (z, ne_eqb (get_or t j 0) 0 d)
+pub filled_is : (t : List ℕ) → count_by (λ (x : ℕ). not (eqb x 0)) t ≡ filled_to t (length t)
+filled_is [] = sym (none [])
+filled_is (x ∷ t) =
+    let p = λ (y : ℕ). not (eqb y 0) in
+    let s : count_by p (x ∷ t) ≡ cond (not (eqb x 0)) 1 0 + count_by p t = sum_by-cons (λ (y : ℕ). cond (not (eqb y 0)) 1 0) x t in
+    s ∙ ap (λ (n : ℕ). n + count_by p t) (go (eqb x 0)) ∙ ap (λ (n : ℕ). cond (eqb x 0) 0 1 + n) (filled_is t) ∙ sym (first x t (length t))
+  where
+    go : (b : Bool) → ◌≡◌ {A = ℕ} (cond (not b) 1 0) (cond b 0 1)
+    go true = refl
+    go false = refl

@@ -1,4 +1,4 @@
--- Times: a time by its bits; and the earlier and the later of two by the test of the code. Assumes nothing.
+-- Times: a time by its bits, and whether one is too late after another. Assumes nothing.
 use Prim.Native.Nat.{ℕ, ◌+◌, ◌*◌, ◌/◌, ◌%◌}
 use mathlib.Core.Path.{◌≡◌, refl, sym, ap, ◌∙◌}
 use mathlib.Core.Bool.{Bool, true, false}
@@ -9,30 +9,16 @@ use lib.Dec.{ltb}
 use lib.ListN.{get_or}
 use Rattle.meter.specs.Integer.{be_at}
 use Rattle.meter.specs.Time.{time_at, compared}
+use Rattle.std.specs.declared.option.Option.TheVariants.{Some, None}
+use Rattle.std.specs.declared.option.Option.{Option}
 use Rattle.meter.specs.declared.time.Time.{Time}
-use Rattle.meter.specs.declared.time.Time.TheVariants as T
+use Rattle.meter.specs.Instant as T
 use Rattle.record.specs.Times.{is_after}
 use Rattle.parts.specs.CutHeader.{sooner, later}
 use Rattle.moment.specs.Moment.{overlap_between}
 use Rattle.parts.specs.Pass.{first_of, is_late}
 
-pub sooner_yes : (t u : Time) → is_after (compared t u) ≡ true → u ≡ sooner t u
-sooner_yes T.Undefined u h = refl
-sooner_yes (T.At d m) u h = rw h
-
-pub sooner_no : (t u : Time) (d m : ℕ) → t ≡ T.At d m → is_after (compared t u) ≡ false → t ≡ sooner t u
-sooner_no T.Undefined u d m e h = e ∙ absurd (let z : ◌≡◌ {A = ℕ} 0 1 = cc in omega arith)
-sooner_no (T.At x y) u d m e h = rw h
-
-pub later_yes : (t u : Time) → is_after (compared u t) ≡ true → u ≡ later t u
-later_yes T.Undefined u h = refl
-later_yes (T.At d m) u h = rw h
-
-pub later_no : (t u : Time) (d m : ℕ) → t ≡ T.At d m → is_after (compared u t) ≡ false → t ≡ later t u
-later_no T.Undefined u d m e h = e ∙ absurd (let z : ◌≡◌ {A = ℕ} 0 1 = cc in omega arith)
-later_no (T.At x y) u d m e h = rw h
-
-pub none_before : (t u : Time) → t ≡ T.Undefined → u ≡ first_of t u
+pub none_before : (t u : Option Time) → t ≡ None → u ≡ first_of t u
 none_before t u e = rw e refl
 
 -- ---- a time by its bits
@@ -45,15 +31,15 @@ of_six s at a b c d e f p q r t u v =
     let y : get_or s (at + 0) 0 ≡ get_or s at 0 = ap (λ (i : ℕ). get_or s i 0) z in
     omega (arith, y)
 
-pub time_none : (s : List ℕ) (at v : ℕ) → v ≡ be_at s at 6 → v ≡ 0xffff_ffff_ffff → T.Undefined ≡ time_at s at
+pub time_none : (s : List ℕ) (at v : ℕ) → v ≡ be_at s at 6 → v ≡ 0xffff_ffff_ffff → None ≡ time_at s at
 time_none s at v e d = rw (eq-eqb (be_at s at 6) 0xffff_ffff_ffff (sym e ∙ d)) refl
 
 pub time_some : (s : List ℕ) (at v : ℕ) → v ≡ be_at s at 6 → (v ≡ 0xffff_ffff_ffff → ⊥) → T.At (v / 0x1_0000_0000) (v % 0x1_0000_0000) ≡ time_at s at
 time_some s at v e d = rw (e, ne_eqb (be_at s at 6) 0xffff_ffff_ffff (λ q. d (e ∙ q))) refl
 
 -- ---- too late, by which join it is
-pub late_identical : (i : Bool) (t u : Time) {r : Bool} → i ≡ true → r ≡ is_after (compared t u) → r ≡ is_late i t u
+pub late_identical : (i : Bool) (t u : Option Time) {r : Bool} → i ≡ true → r ≡ is_after (compared t u) → r ≡ is_late i t u
 late_identical i t u e d = d ∙ ap (λ (b : Bool). is_late b t u) (sym e)
 
-pub late_granules : (i : Bool) (t u : Time) {n : ℕ} → i ≡ false → n ≡ overlap_between t u → ltb 1 n ≡ is_late i t u
+pub late_granules : (i : Bool) (t u : Option Time) {n : ℕ} → i ≡ false → n ≡ overlap_between t u → ltb 1 n ≡ is_late i t u
 late_granules i t u e d = ap (ltb 1) d ∙ ap (λ (b : Bool). is_late b t u) (sym e)

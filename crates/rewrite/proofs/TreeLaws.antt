@@ -7,7 +7,7 @@ use mathlib.Core.Path.{◌≡◌, refl, sym, ap, subst, ◌∙◌}
 use mathlib.Core.Bool.{Bool}
 use mathlib.Core.List.{List, [], ◌∷◌, ◌++◌}
 use lib.ListN.{length, get_or, take, length-append}
-use Rattle.meter.specs.declared.integer.Written.TheVariants as W
+use Rattle.std.specs.declared.result.Result.TheVariants.{Ok}
 use Rattle.demands.specs.Product.{Meets}
 use Rattle.demands.proofs.Accepted.{one_list}
 use Rattle.parts.specs.Parts.{main_of, records_at}
@@ -52,7 +52,7 @@ record Told (ls : List (List ℕ)) (c : List ℕ) (u : Meets c) : Type 0 where
 
 told : {t : Tree} {c : List ℕ} → Writes t c → (u : Meets c) → Told (granules t) c u
 told (alone {a = a}) u = record { first = P.granule (main_of a) (records_at a u.list); rest = []; each = more u none; tells = tells_one (meets_built a u) }
-told (joined {a = a} {b = b} {k = k} x y j) u = both (join_written k (W.Bytes k) refl j) (λ v. told x v) (λ v. told y v) u
+told (joined {a = a} {b = b} {k = k} x y j) u = both (join_written k (Ok k) refl j) (λ v. told x v) (λ v. told y v) u
   where
     both : {i : Bool} {ls ks : List (List ℕ)} {a b room exit : List ℕ} {k : ℕ} (w : JoinResult i a b room k exit) → ((u : Meets a) → Told ls a u) → ((u : Meets b) → Told ks b u) → (u : Meets (take k exit)) → Told (ls ++ ks) (take k exit) u
     both {ls = ls} {ks = ks} {a = a} {b = b} w f g = subst (λ (c : List ℕ). (u : Meets c) → Told (ls ++ ks) c u) (sym (join_left w)) (λ u.
@@ -74,9 +74,9 @@ record Passed (ls : List (List ℕ)) (c : List ℕ) : Type 0 where
   each : Each ls list
   pass : IsPass list c
 
-passed : {i : Bool} {s t : Tree} {a b room exit : List ℕ} {k : ℕ} → Writes s a → Writes t b → JoinIs i a b room (W.Bytes k) exit → Passed (granules s ++ granules t) (take k exit)
+passed : {i : Bool} {s t : Tree} {a b room exit : List ℕ} {k : ℕ} → Writes s a → Writes t b → JoinIs i a b room (Ok k) exit → Passed (granules s ++ granules t) (take k exit)
 passed {k = k} x y j =
-    let w = join_written k (W.Bytes k) refl j in
+    let w = join_written k (Ok k) refl j in
     let f = told x w.first in
     let g = told y w.second in
     record { list = f.first ∷ (f.rest ++ (g.first ∷ g.rest)); each = each_append f.each g.each; pass = subst (IsPass _) (sym (join_left w)) (join_pass f.tells g.tells w.join) }

@@ -86,15 +86,6 @@ module _ {a b : List ℕ} {i n : ℕ} (u : Untimable a b i n) where
   pub one_no : {q : Bool} → SameIs (take 8 (drop i a)) (take 8 (drop i b)) q → q ≡ false → Decides (untimed_at a i n ≡ untimed_at b i n) false
   one_no d e = no_it_is (λ s. d.wrong e (front_same a b i n n one_first one_second s))
 
-  pub one_last :
-      {q r : Bool} → SameIs (take 8 (drop i a)) (take 8 (drop i b)) q → q ≡ true → SameIs (take (n - 20) (drop (i + 20) a)) (take (n - 20) (drop (i + 20) b)) r
-      → Decides (untimed_at a i n ≡ untimed_at b i n) r
-  one_last d e c =
-      decides_as
-      (λ s. ap (λ (l : List ℕ). l ++ take (n - 20) (drop (i + 20) a)) (d.right e) ∙ ap (λ (l : List ℕ). take 8 (drop i b) ++ l) s)
-      (rest_same a b i n n one_first one_second)
-      c
-
 -- what is compared of a record is 12 bytes less
 untimed_long : (x : List ℕ) → 20 ≤ length x → length (untimed x) + 12 ≡ length x
 untimed_long x h = omega (arith, length-append (take 8 x) (drop 20 x), length-take-le 8 x (omega arith), length-drop 20 x)

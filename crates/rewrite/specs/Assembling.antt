@@ -7,8 +7,10 @@ use Rattle.parts.specs.Parts.{bytes, count}
 use Rattle.parts.specs.Kinds.{Kinded}
 use Rattle.parts.specs.Pointers.{base, assembled}
 use Rattle.parts.specs.Rewritten.{Holdable}
-use Rattle.rewrite.specs.declared.plan.Plan.{Plan}
-use Rattle.rewrite.specs.declared.plan.Plan.TheVariants as P
+use Rattle.std.specs.declared.result.Result.TheVariants.{Ok, Err}
+use Rattle.std.specs.declared.result.Result.{Result}
+use Rattle.calendar.specs.declared.Refusal.{Refusal}
+use Rattle.rewrite.specs.declared.plan.Size.{Size}
 use Rattle.rewrite.specs.Table.{Holds}
 
 -- the totals of a product of records ps, and its main header: of all, and of each class
@@ -56,10 +58,10 @@ pub record Planned (m : List ℕ) (fs ks : List (List ℕ)) (room at size : ℕ)
   pub fits : size ≤ room
   pub totals_of : TotalsOf (assembled m fs ks) totals
 
-abbrev pub PlanOf : List ℕ → List (List ℕ) → List (List ℕ) → ℕ → Plan → List ℕ → Type 0
-PlanOf m fs ks room (P.Refused r) totals = Unplanned m fs ks room r.number r.place
-PlanOf m fs ks room (P.Size b n) totals = Planned m fs ks room b n totals
+abbrev pub PlanOf : List ℕ → List (List ℕ) → List (List ℕ) → ℕ → Result Size Refusal → List ℕ → Type 0
+PlanOf m fs ks room (Err r) totals = Unplanned m fs ks room r.number r.place
+PlanOf m fs ks room (Ok t) totals = Planned m fs ks room t.base t.size totals
 
-abbrev pub PlanIs : List ℕ → List ℕ → ℕ → ℕ → ℕ → ℕ → Plan → List ℕ → Type 0
+abbrev pub PlanIs : List ℕ → List ℕ → ℕ → ℕ → ℕ → ℕ → Result Size Refusal → List ℕ → Type 0
 PlanIs table tally front kept records room r totals =
     (m : List ℕ) (fs ks : List (List ℕ)) → Collected fs ks table tally front kept records → PlanOf m fs ks room r totals

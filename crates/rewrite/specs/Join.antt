@@ -3,17 +3,16 @@
 -- refusal writes nothing. The same of both joins, request Seven's (`identical`) and that of a pass (`granules`). Assumes nothing.
 use Rattle.std.specs.Prelude.{ℕ, ◌≤◌, ◌<◌, ◌≡◌, Bool, List, ◌++◌, length, drop}
 use Rattle.calendar.specs.declared.Refusal.{Refusal}
-use Rattle.meter.specs.declared.integer.Written.{Written}
-use Rattle.meter.specs.declared.integer.Written.TheVariants as W
+use Rattle.std.specs.declared.result.Result.TheVariants.{Ok, Err}
+use Rattle.std.specs.declared.result.Result.{Result}
 use Rattle.finish.specs.Finish.{VerdictIs}
-use Rattle.finish.specs.declared.Finished.TheVariants as F
 use Rattle.demands.specs.Product.{Meets}
 use Rattle.parts.specs.Parts.{main_of, records_at}
 use Rattle.parts.specs.Pass.{Alike, InTime, Joinable, join_size, IsJoin}
 use Rattle.rewrite.specs.Cut.{refused_at}
 
 -- of two products, by their parts, and a room: the answer, and the room at exit; i is which join it is
-pub data PartsJoin (i : Bool) (m n : List ℕ) (rs ss : List (List ℕ)) (room : List ℕ) : Written → List ℕ → Type 0 where
+pub data PartsJoin (i : Bool) (m n : List ℕ) (rs ss : List (List ℕ)) (room : List ℕ) : Result ℕ Refusal → List ℕ → Type 0 where
   unlike : (Alike i m n rs ss → ⊥) → PartsJoin i m n rs ss room (refused_at 26 0) room
   out_of_time : Alike i m n rs ss → (InTime i rs ss → ⊥) → PartsJoin i m n rs ss room (refused_at 27 0) room
   too_much : Alike i m n rs ss → InTime i rs ss → (Joinable m n rs ss → ⊥) → PartsJoin i m n rs ss room (refused_at 28 0) room
@@ -21,14 +20,14 @@ pub data PartsJoin (i : Bool) (m n : List ℕ) (rs ss : List (List ℕ)) (room :
       Alike i m n rs ss → InTime i rs ss → Joinable m n rs ss → length room < join_size m rs ss → PartsJoin i m n rs ss room (refused_at 18 (join_size m rs ss)) room
   written :
       (c : List ℕ) → Alike i m n rs ss → InTime i rs ss → Joinable m n rs ss → join_size m rs ss ≤ length room → IsJoin m n rs ss c
-      → PartsJoin i m n rs ss room (W.Bytes (join_size m rs ss)) (c ++ drop (join_size m rs ss) room)
+      → PartsJoin i m n rs ss room (Ok (join_size m rs ss)) (c ++ drop (join_size m rs ss) room)
 
 -- of the bytes a and b
-pub data JoinIs (i : Bool) (a b : List ℕ) (room : List ℕ) : Written → List ℕ → Type 0 where
-  first_unfit : (r : Refusal) → VerdictIs a (F.Refused r) → JoinIs i a b room (W.Refused r) room
-  second_unfit : (r : Refusal) → Meets a → VerdictIs b (F.Refused r) → JoinIs i a b room (W.Refused r) room
+pub data JoinIs (i : Bool) (a b : List ℕ) (room : List ℕ) : Result ℕ Refusal → List ℕ → Type 0 where
+  first_unfit : (r : Refusal) → VerdictIs a (Err r) → JoinIs i a b room (Err r) room
+  second_unfit : (r : Refusal) → Meets a → VerdictIs b (Err r) → JoinIs i a b room (Err r) room
   both :
-      {r : Written} {exit : List ℕ} (t : Meets a) (u : Meets b) → PartsJoin i (main_of a) (main_of b) (records_at a t.list) (records_at b u.list) room r exit
+      {r : Result ℕ Refusal} {exit : List ℕ} (t : Meets a) (u : Meets b) → PartsJoin i (main_of a) (main_of b) (records_at a t.list) (records_at b u.list) room r exit
       → JoinIs i a b room r exit
 
 -- WHAT WAS WRITTEN, of k bytes: the join of the two products, and then what the room held

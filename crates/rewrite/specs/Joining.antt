@@ -2,7 +2,8 @@
 use Rattle.std.specs.Prelude.{ℕ, zero, suc, ◌+◌, ◌≤◌, ◌≡◌, Bool, length, get_or}
 use mathlib.Core.List.{List, [], ◌∷◌, ◌++◌, Memᴰ as In}
 use Rattle.std.proofs.lemmas.List.Edits.{sets}
-use Rattle.meter.specs.declared.integer.Written.{Written}
+use Rattle.std.specs.declared.result.Result.{Result}
+use Rattle.calendar.specs.declared.Refusal.{Refusal}
 use Rattle.demands.specs.Product.{MainHeader, Meets}
 use Rattle.parts.specs.Parts.{joined, bytes, bytes_of, main_of, records_at}
 use Rattle.parts.specs.Only.{only, is_sphr}
@@ -79,7 +80,7 @@ pub record Matched (a b : List ℕ) (x y : Sections) : Type 0 where
   pub sums : SumsFit (main_of a) (main_of b)
 
 -- the answer, whichever join it is of, where they are alike and in time
-abbrev pub MatchedIs : List ℕ → List ℕ → List ℕ → Written → List ℕ → Type 0
+abbrev pub MatchedIs : List ℕ → List ℕ → List ℕ → Result ℕ Refusal → List ℕ → Type 0
 MatchedIs a b room r exit =
     (i : Bool) (t : Two a b) → Alike i (main_of a) (main_of b) (rs_of a b t) (ss_of a b t) → InTime i (rs_of a b t) (ss_of a b t) → JoinIs i a b room r exit
 

@@ -1,10 +1,11 @@
 -- Lines of a main header set anew, one after the other. What a function between two steps asks and promises. Assumes nothing.
 use Rattle.std.specs.Prelude.{ℕ, zero, suc, ◌+◌, ◌≤◌, ◌<◌, ◌≡◌, true, false, List, [], ◌∷◌, ◌++◌, pos, length, get_or, take, drop}
 use Rattle.meter.specs.Time.{is_time}
+use Rattle.std.specs.declared.option.Option.TheVariants.{Some, None}
+use Rattle.std.specs.declared.option.Option.{Option}
+use Rattle.std.specs.Prelude.{ℤ}
 use Rattle.meter.specs.declared.time.Time.{Time}
 use Rattle.text.specs.Writing.{fits_number}
-use Rattle.text.specs.declared.Number.{Number}
-use Rattle.text.specs.declared.Number.TheVariants as N
 use Rattle.mphr.specs.Layout.{width_of}
 use Rattle.demands.specs.Product.{MainHeader}
 use Rattle.parts.specs.Parts.{main_of}
@@ -16,26 +17,26 @@ abbrev pub Adds : List ℕ → List ℕ → List Anew → Type 0
 Adds h h' new = (m : List ℕ) (l : List Anew) → Rewritten m h (values_of l) → Rewritten m h' (values_of (new ++ l))
 
 -- a number that line k can hold
-pub record NumberFor (k : ℕ) (x : Number) : Type 0 where
+pub record NumberFor (k : ℕ) (x : Option ℤ) : Type 0 where
   pub line : k < 72
   pub narrow : width_of k ≤ 17
   pub fits : fits_number false (width_of k) x ≡ true
 
-abbrev pub whole_number : ℕ → Number
-whole_number n = N.Whole (pos n)
+abbrev pub whole_number : ℕ → Option ℤ
+whole_number n = Some (pos n)
 
-abbrev pub number_line : ℕ → Number → List Anew
+abbrev pub number_line : ℕ → Option ℤ → List Anew
 number_line k x = anew k (number x) ∷ []
 
 abbrev pub unknown_lines : List Anew
 unknown_lines =
-    anew 64 (number N.Undefined)
-    ∷ anew 65 (number N.Undefined)
-    ∷ anew 66 (number N.Undefined)
-    ∷ anew 67 (number N.Undefined)
-    ∷ anew 68 (number N.Undefined)
-    ∷ anew 69 (number N.Undefined)
-    ∷ anew 70 (number N.Undefined)
+    anew 64 (number None)
+    ∷ anew 65 (number None)
+    ∷ anew 66 (number None)
+    ∷ anew 67 (number None)
+    ∷ anew 68 (number None)
+    ∷ anew 69 (number None)
+    ∷ anew 70 (number None)
     ∷ anew 71 (text (84 ∷ []))
     ∷ []
 
@@ -53,11 +54,11 @@ total_lines t j (suc n) = anew (55 + j) (whole (get_or t j 0)) ∷ total_lines t
 abbrev pub timed : List ℕ → List ℕ → List ℕ → List ℕ
 timed n f l = take 16 n ++ (f ++ (take 1 (drop 31 n) ++ (l ++ drop 47 n)))
 
-abbrev pub time_lines : List ℕ → Time → Time → List Anew
+abbrev pub time_lines : List ℕ → Option Time → Option Time → List Anew
 time_lines n t u = anew 0 (text (renamed n (to_second t) (to_second u))) ∷ anew 10 (time (to_second t)) ∷ anew 11 (time (to_second u)) ∷ []
 
 -- a product's header that is to be rewritten, and what goes into it
-pub record HeaderFor (a : List ℕ) (t u : Time) (totals : List ℕ) (size : ℕ) (h : List ℕ) : Type 0 where
+pub record HeaderFor (a : List ℕ) (t u : Option Time) (totals : List ℕ) (size : ℕ) (h : List ℕ) : Type 0 where
   pub come : 3307 ≤ length a
   pub header : MainHeader (main_of a)
   pub start : is_time t ≡ true
@@ -67,8 +68,8 @@ pub record HeaderFor (a : List ℕ) (t u : Time) (totals : List ℕ) (size : ℕ
   pub long : length h ≡ 3307
 
 -- the lines of the cut, by these
-abbrev pub lines_by : List ℕ → Time → Time → List ℕ → ℕ → List Anew
+abbrev pub lines_by : List ℕ → Option Time → Option Time → List ℕ → ℕ → List Anew
 lines_by m t u totals size = anew 28 (whole size) ∷ (total_lines totals 0 9 ++ (time_lines (value_of m 0) t u ++ unknown_lines))
 
-abbrev pub HeaderIs : List ℕ → Time → Time → List ℕ → ℕ → List ℕ → Type 0
+abbrev pub HeaderIs : List ℕ → Option Time → Option Time → List ℕ → ℕ → List ℕ → Type 0
 HeaderIs a t u totals size h = Rewritten (main_of a) h (values_of (lines_by (main_of a) t u totals size))

@@ -1,8 +1,9 @@
 -- The sections of a product, from its headers. What a function between two steps asks and promises. Assumes nothing.
 use Rattle.std.specs.Prelude.{ℕ, ◌+◌, ◌≤◌, ◌<◌, ◌≡◌, cond, ◌⊎◌, List, [], ◌++◌, eqb, length, get_or}
 use Rattle.meter.specs.Time.{time_at}
+use Rattle.std.specs.declared.option.Option.TheVariants.{None}
+use Rattle.std.specs.declared.option.Option.{Option}
 use Rattle.meter.specs.declared.time.Time.{Time}
-use Rattle.meter.specs.declared.time.Time.TheVariants as T
 use Rattle.demands.specs.Product.{size as size_of}
 use Rattle.parts.specs.Parts.{bytes, Follows}
 use Rattle.parts.specs.Only.{only, is_in, is_sphr, is_global, is_variable, is_mdr}
@@ -11,7 +12,7 @@ use Rattle.parts.specs.Walk.{Walk}
 use Rattle.rewrite.specs.declared.sections.Sections.{Sections}
 use Rattle.rewrite.specs.declared.sections.Stopped.{Stopped}
 
-pub record PartsOf (s p g v : ℕ) (t u : Time) (x : Sections) : Type 0 where
+pub record PartsOf (s p g v : ℕ) (t u : Option Time) (x : Sections) : Type 0 where
   pub sphr : x.sphr ≡ s
   pub ipr : x.ipr ≡ p
   pub global : x.global ≡ g
@@ -26,15 +27,15 @@ pub record Left (a : List ℕ) (i : ℕ) : Type 0 where
   pub walk : Walk a i records
 
 -- their first defined start and their last defined stop
-abbrev pub FirstStartIs : List ℕ → ℕ → Time → Type 0
-FirstStartIs a i t = (rs : List (List ℕ)) → Walk a i rs → t ≡ first_start_from T.Undefined rs
+abbrev pub FirstStartIs : List ℕ → ℕ → Option Time → Type 0
+FirstStartIs a i t = (rs : List (List ℕ)) → Walk a i rs → t ≡ first_start_from None rs
 
-abbrev pub LastStopIs : List ℕ → ℕ → Time → Type 0
-LastStopIs a i t = (rs : List (List ℕ)) → Walk a i rs → t ≡ last_stop_from T.Undefined rs
+abbrev pub LastStopIs : List ℕ → ℕ → Option Time → Type 0
+LastStopIs a i t = (rs : List (List ℕ)) → Walk a i rs → t ≡ last_stop_from None rs
 
 -- the stop of the record at byte p; none where p is 0
-abbrev pub stop_at : List ℕ → ℕ → Time
-stop_at a p = cond (eqb p 0) T.Undefined (time_at a (p + 14))
+abbrev pub stop_at : List ℕ → ℕ → Option Time
+stop_at a p = cond (eqb p 0) None (time_at a (p + 14))
 
 -- r is the place with the record at byte i
 pub record LaterIs (a : List ℕ) (p i r : ℕ) : Type 0 where

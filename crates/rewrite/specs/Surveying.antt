@@ -1,7 +1,6 @@
 -- The survey of a product's headers: what the records that a cut takes over come to. What a function between two steps asks and promises. Assumes
 -- nothing.
 use Rattle.std.specs.Prelude.{ℕ, ◌+◌, ◌≤◌, ◌<◌, ◌≡◌, List, ◌++◌, length, get_or}
-use Rattle.meter.specs.declared.time.Time.{Time}
 use Rattle.demands.specs.Product.{size as size_of}
 use Rattle.parts.specs.Parts.{bytes, count}
 use Rattle.parts.specs.Only.{only, is_sphr}
@@ -10,13 +9,6 @@ use Rattle.parts.specs.CutHeader.{first_start, last_stop}
 use Rattle.parts.specs.Walk.{Walk}
 use Rattle.rewrite.specs.declared.survey.Sums.{Sums}
 use Rattle.rewrite.specs.Table.{Holds}
-
-pub record SumsOf (f k n : ℕ) (t u : Time) (v : Sums) : Type 0 where
-  pub front : v.front ≡ f
-  pub kept : v.kept ≡ k
-  pub records : v.records ≡ n
-  pub start : v.start ≡ t
-  pub stop : v.stop ≡ u
 
 -- WHAT IS FOUND of the records rs: the places of the kinds that are kept; the bytes of the SPHR; how many records are carried over, in all and of each
 -- class; the earliest start and the latest stop of the chosen MDRs

@@ -1,7 +1,7 @@
 -- A TREE OF JOINS (02, request Seven: "Join granules into a pass"; "Where both ways of joining three products are accepted, the bytes are the same"): products
 -- joined two by two until one is left, in whatever order of joins. Assumes nothing.
 use Rattle.std.specs.Prelude.{ℕ, Bool, List, [], ◌∷◌, ◌++◌, take}
-use Rattle.meter.specs.declared.integer.Written.TheVariants as W
+use Rattle.std.specs.declared.result.Result.TheVariants.{Ok}
 use Rattle.rewrite.specs.Join.{JoinIs}
 
 -- which are joined with which
@@ -18,4 +18,4 @@ granules (join s t) = granules s ++ granules t
 -- and the answer was k bytes. Each join may have a room of its own, and be request Seven's or that of a pass
 pub data Writes : Tree → List ℕ → Type 0 where
   alone : {a : List ℕ} → Writes (granule a) a
-  joined : {i : Bool} {s t : Tree} {a b room exit : List ℕ} {k : ℕ} → Writes s a → Writes t b → JoinIs i a b room (W.Bytes k) exit → Writes (join s t) (take k exit)
+  joined : {i : Bool} {s t : Tree} {a b room exit : List ℕ} {k : ℕ} → Writes s a → Writes t b → JoinIs i a b room (Ok k) exit → Writes (join s t) (take k exit)

@@ -13,11 +13,7 @@ pub(crate) fn copy(s: &[u8], from: usize, n: usize, room: &mut [u8], at: usize)
     requires { (from + n ≤ length s.now) × (at + n ≤ length room.old) }
     ensures { room.new ≡ sets room.old at (take n (drop from s.now)) }
 {
-    let mut i: usize = 0;
-    while i < n {
-        room[at + i] = s[from + i];
-        i += 1;
-    }
+    room[at..at + n].copy_from_slice(&s[from..from + n]);
 }
 
 // The record of `size` bytes of s at `at` is that of t but for the two times of its header.
@@ -25,10 +21,7 @@ fn is_one_untimed(s: &[u8], t: &[u8], at: usize, size: usize) -> bool
     requires { Untimable s.now t.now at size }
     ensures { Decides (untimed_at s.now at size ≡ untimed_at t.now at size) result }
 {
-    if !is_same(s, at, t, at, 8) {
-        return false;
-    }
-    is_same(s, at + 20, t, at + 20, size - 20)
+    is_same(s, at, t, at, 8) && is_same(s, at + 20, t, at + 20, size - 20)
 }
 
 // The records of s are those of t but for the two times of their headers.

@@ -13,8 +13,7 @@ fn gather_one(s: &[u8], at: usize, n: usize, table: &mut [u32], tally: &mut [usi
 {
     let class = s[at];
     note(table, slot(class, s[at + 1], s[at + 2]), n);
-    let c = wide(class);
-    tally[c] = tally[c] + 1;
+    tally[wide(class)] += 1;
 }
 
 // How many records were gathered, and where the next one starts.

@@ -1,7 +1,6 @@
 // Two products joined into one: those of request Seven (02), with identical SPHR and global records, and granules of a pass, whose SPHR
 // and global records have the times of their own product.
 ghost use Rattle.std.specs.Prelude.{◌≡◌, cond, eqb, length};
-ghost use Rattle.demands.specs.Product.{Meets};
 ghost use Rattle.parts.specs.Parts.{main_of};
 ghost use Rattle.parts.specs.Join.{identical, granules};
 ghost use Rattle.bytewise.specs.Comparing.{Decides};
@@ -10,60 +9,40 @@ ghost use Rattle.rewrite.specs.Joining.{Two, Sections2, Matched, MatchedIs, Gath
 ghost use Rattle.rewrite.specs.Joining.{RecordsFor, PutsRecords, JoinPlanned, PutsJoin};
 
 use crate::copy::{copy, is_untimed};
-use crate::cut::refused;
 use crate::gather::gather;
 use crate::kinds::put_pointers;
 use crate::lines::{four_agree, put_join_header, sums_fit};
-use crate::plan::{Plan, plan_of};
+use crate::plan::{Size, plan_of};
 use crate::sections::{Sections, sections_of};
 use crate::times::is_late;
 use bytewise::is_same;
-use finish::{Finished, verdict};
-use meter::integer::Written;
+use calendar::{Refusal, fault};
+use finish::verdict;
 
-// "with identical SPHR and global records", or the same but for the times of their headers.
+// "with identical SPHR and global records", or the same but for the times of their headers. `same` stays a flag: it is the clauses' own
+// (`identical`, `granules`), and a closure for each of its two uses would be no plainer, handed down through four functions.
 fn is_like(same: bool, first: &[u8], f: Sections, second: &[u8], g: Sections) -> bool
     requires { Sections2 first.now second.now f g }
     ensures { LikeIs same first.now second.now result }
 {
-    if f.sphr != g.sphr {
+    if f.sphr != g.sphr || f.global != g.global {
         return false;
     }
-    if f.global != g.global {
-        return false;
-    }
+    let from = 3307 + f.sphr + f.ipr;
+    let at = 3307 + g.sphr + g.ipr;
     if same {
-        if !is_same(first, 3307, second, 3307, f.sphr) {
-            return false;
-        }
-        return is_same(
-            first,
-            3307 + f.sphr + f.ipr,
-            second,
-            3307 + g.sphr + g.ipr,
-            f.global,
-        );
+        is_same(first, 3307, second, 3307, f.sphr) && is_same(first, from, second, at, f.global)
+    } else {
+        is_untimed(first, 3307, second, 3307, f.sphr)
+            && is_untimed(first, from, second, at, f.global)
     }
-    if !is_untimed(first, 3307, second, 3307, f.sphr) {
-        return false;
-    }
-    is_untimed(
-        first,
-        3307 + f.sphr + f.ipr,
-        second,
-        3307 + g.sphr + g.ipr,
-        f.global,
-    )
 }
 
 fn is_alike(same: bool, first: &[u8], f: Sections, second: &[u8], g: Sections) -> bool
     requires { Sections2 first.now second.now f g }
     ensures { AlikeIs same first.now second.now result }
 {
-    if !four_agree(&first[..3307], &second[..3307]) {
-        return false;
-    }
-    is_like(same, first, f, second, g)
+    four_agree(&first[..3307], &second[..3307]) && is_like(same, first, f, second, g)
 }
 
 // 0 or 1 records in a section of n bytes.
@@ -142,95 +121,100 @@ fn put_join(
     g: Sections,
     table: &[u32],
     totals: &[usize],
-    base: usize,
-    size: usize,
+    plan: Size,
     room: &mut [u8],
 )
-    requires { JoinPlanned first.now second.now f g table.now totals.now base size room.old }
+    requires { JoinPlanned first.now second.now f g table.now totals.now plan.base plan.size room.old }
     ensures { PutsJoin first.now second.now room.old room.new }
 {
     let mut header = [0u8; 3307];
-    put_join_header(&first[..3307], &second[..3307], totals, size, &mut header);
+    put_join_header(
+        &first[..3307],
+        &second[..3307],
+        totals,
+        plan.size,
+        &mut header,
+    );
     copy(&header, 0, 3307, room, 0);
     copy(first, 3307, f.sphr, room, 3307);
-    put_pointers(first, table, base, room, 3307 + f.sphr);
-    put_records(first, f, second, g, room, base);
+    put_pointers(first, table, plan.base, room, 3307 + f.sphr);
+    put_records(first, f, second, g, room, plan.base);
 }
 
 // Products whose sums fit: the answer, where they are alike and in time.
-fn join_matched(first: &[u8], f: Sections, second: &[u8], g: Sections, room: &mut [u8]) -> Written
+fn join_matched(
+    first: &[u8],
+    f: Sections,
+    second: &[u8],
+    g: Sections,
+    room: &mut [u8],
+) -> Result<usize, Refusal>
     requires { Matched first.now second.now f g }
     ensures { MatchedIs first.now second.now room.old result room.new }
 {
     let kept = (first.len() - 3307 - f.sphr - f.ipr)
         + (second.len() - 3307 - g.sphr - g.ipr - g.global);
     if kept > 2_147_483_647 {
-        return refused(28, 0);
+        return Err(Refusal {
+            number: fault::RESULT_LIMIT,
+            place: 0,
+        });
     }
     let mut table = [0u32; 20480];
     let mut tally = [0usize; 9];
     let records = gather_both(first, f, second, g, &mut table, &mut tally);
-    match plan_of(&table, &mut tally, f.sphr, kept, records, room.len()) {
-        Plan::Refused(r) => Written::Refused(r),
-        Plan::Size { base, size } => {
-            put_join(first, f, second, g, &table, &tally, base, size, room);
-            Written::Bytes(size)
-        }
-    }
+    let plan = plan_of(&table, &mut tally, f.sphr, kept, records, room.len())?;
+    put_join(first, f, second, g, &table, &tally, plan, room);
+    Ok(plan.size)
 }
 
 // Products that were accepted.
-fn join_products(same: bool, first: &[u8], second: &[u8], room: &mut [u8]) -> Written
+fn join_products(same: bool, first: &[u8], second: &[u8], room: &mut [u8]) -> Result<usize, Refusal>
     requires { Two first.now second.now }
     ensures { JoinIs same first.now second.now room.old result room.new }
 {
     let f = sections_of(first);
     let g = sections_of(second);
     if !is_alike(same, first, f, second, g) {
-        return refused(26, 0);
+        return Err(Refusal {
+            number: fault::UNLIKE,
+            place: 0,
+        });
     }
-    let stop = f.stop;
-    let start = g.start;
-    if is_late(same, stop, start) {
-        return refused(27, 0);
+    if is_late(same, f.stop, g.start) {
+        return Err(Refusal {
+            number: fault::OUT_OF_TIME,
+            place: 0,
+        });
     }
     if !sums_fit(&first[..3307], &second[..3307]) {
-        return refused(28, 0);
+        return Err(Refusal {
+            number: fault::RESULT_LIMIT,
+            place: 0,
+        });
     }
     join_matched(first, f, second, g, room)
 }
 
-// To a first product that was accepted.
-fn join_second(same: bool, first: &[u8], second: &[u8], room: &mut [u8]) -> Written
-    requires { Meets first.now }
+// Products that may not be accepted, by the one way or the other.
+fn join_by(same: bool, first: &[u8], second: &[u8], room: &mut [u8]) -> Result<usize, Refusal>
     ensures { JoinIs same first.now second.now room.old result room.new }
 {
-    match verdict(second) {
-        Finished::Refused(r) => Written::Refused(r),
-        Finished::Accepted { count: _ } => join_products(same, first, second, room),
-    }
-}
-
-// To a first product that may not be accepted.
-fn join_first(same: bool, first: &[u8], second: &[u8], room: &mut [u8]) -> Written
-    ensures { JoinIs same first.now second.now room.old result room.new }
-{
-    match verdict(first) {
-        Finished::Refused(r) => Written::Refused(r),
-        Finished::Accepted { count: _ } => join_second(same, first, second, room),
-    }
+    verdict(first)?;
+    verdict(second)?;
+    join_products(same, first, second, room)
 }
 
 // One product of two that follow each other, at the start of the room.
-pub fn join(first: &[u8], second: &[u8], room: &mut [u8]) -> Written
+pub fn join(first: &[u8], second: &[u8], room: &mut [u8]) -> Result<usize, Refusal>
     ensures { JoinIs identical first.now second.now room.old result room.new }
 {
-    join_first(true, first, second, room)
+    join_by(true, first, second, room)
 }
 
 // One product of two granules of a pass that follow each other, at the start of the room.
-pub fn join_pass(first: &[u8], second: &[u8], room: &mut [u8]) -> Written
+pub fn join_pass(first: &[u8], second: &[u8], room: &mut [u8]) -> Result<usize, Refusal>
     ensures { JoinIs granules first.now second.now room.old result room.new }
 {
-    join_first(false, first, second, room)
+    join_by(false, first, second, room)
 }

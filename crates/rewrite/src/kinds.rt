@@ -50,15 +50,7 @@ pub(crate) fn kinds_in(table: &[u32]) -> usize
     requires { length table.now ≡ 20480 }
     ensures { result ≡ filled_to table.now 20480 }
 {
-    let mut n: usize = 0;
-    let mut j: usize = 0;
-    while j < 20480 {
-        if table[j] != 0 {
-            n += 1;
-        }
-        j += 1;
-    }
-    n
+    table.iter().filter(|place| **place != 0).count()
 }
 
 fn wide_word(x: u32) -> usize
@@ -78,13 +70,11 @@ fn group_at(x: usize) -> u8
     requires { x < 16 }
     ensures { result ≡ group_at x }
 {
-    if x < 14 {
-        return byte(x);
+    match x {
+        0..=13 => byte(x),
+        14 => 15,
+        _ => 99,
     }
-    if x == 14 {
-        return 15;
-    }
-    99
 }
 
 // The pointer record at a record of the kind of place j.
@@ -125,10 +115,8 @@ pub(crate) fn put_pointers(s: &[u8], table: &[u32], base: usize, room: &mut [u8]
     ensures { PutsText (pointers_from s.now base table.now 0) room.old p result room.new }
 {
     let mut to = p;
-    let mut j: usize = 0;
-    while j < 20480 {
+    for j in 0..20480 {
         to = put_place(s, table, j, base, room, to);
-        j += 1;
     }
     to
 }

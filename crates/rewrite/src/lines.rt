@@ -16,47 +16,47 @@ ghost use Rattle.rewrite.specs.Joining.{Headers, sum_lines, end_lines, JoinHeade
 use crate::copy::copy;
 use bytewise::is_same;
 use meter::time::Time;
-use mphr::layout::{FieldPlace, field_place};
-use text::{Kind, Number, count_at};
+use mphr::layout::field_place;
+use text::{Kind, count_at};
 
 // The value of line k.
 fn set_value(header: &mut [u8], k: usize, value: &[u8])
     requires { (k < 72) × (length header.old ≡ 3307) × (length value.now ≡ width_of k) }
     ensures { header.new ≡ sets header.old (line_start k + 32) value.now }
 {
-    let FieldPlace::Place(place) = field_place(k) else {
+    let Ok(place) = field_place(k) else {
         return;
     };
     copy(value, 0, value.len(), header, place.start + 32);
 }
 
-fn set_number(header: &mut [u8], k: usize, number: Number)
+fn set_number(header: &mut [u8], k: usize, number: Option<i64>)
     requires { (length header.old ≡ 3307) × NumberFor k number }
     ensures { Adds header.old header.new (number_line k number) }
 {
-    let FieldPlace::Place(place) = field_place(k) else {
+    let Ok(place) = field_place(k) else {
         return;
     };
     let w = place.width;
     let mut digits = [0u8; 17];
-    text::write_number(&mut digits[..w], w, false, number);
+    let _ = text::write_number(&mut digits[..w], w, false, number);
     set_value(header, k, &digits[..w]);
 }
 
-fn whole(n: usize) -> Number
+fn whole(n: usize) -> Option<i64>
     requires { n ≤ 2147483647 }
     ensures { result ≡ whole_number n }
 {
-    Number::Whole(n as i64)
+    Some(n as i64)
 }
 
 // A time cut to whole seconds: the long text without the digits of its millisecond.
-fn stamp_of(time: Time) -> [u8; 15]
+fn stamp_of(time: Option<Time>) -> [u8; 15]
     requires { is_time time ≡ true }
     ensures { result ≡ stamp (to_second time) }
 {
     let mut long = [0u8; 18];
-    meter::general::time_text(&mut long, time);
+    let _ = meter::general::time_text(&mut long, time);
     let mut stamp = [90u8; 15];
     copy(&long, 0, 14, &mut stamp, 0);
     stamp
@@ -68,13 +68,13 @@ fn set_unknown(header: &mut [u8])
     ensures { Adds header.old header.new unknown_lines }
 {
     set_value(header, 71, b"T");
-    set_number(header, 70, Number::Undefined);
-    set_number(header, 69, Number::Undefined);
-    set_number(header, 68, Number::Undefined);
-    set_number(header, 67, Number::Undefined);
-    set_number(header, 66, Number::Undefined);
-    set_number(header, 65, Number::Undefined);
-    set_number(header, 64, Number::Undefined);
+    set_number(header, 70, None);
+    set_number(header, 69, None);
+    set_number(header, 68, None);
+    set_number(header, 67, None);
+    set_number(header, 66, None);
+    set_number(header, 65, None);
+    set_number(header, 64, None);
 }
 
 // The totals, of all records and of each class.
@@ -82,9 +82,7 @@ fn set_totals(header: &mut [u8], totals: &[usize])
     requires { (length header.old ≡ 3307) × Totals totals.now }
     ensures { Adds header.old header.new (total_lines totals.now 0 9) }
 {
-    let mut j: usize = 9;
-    while 0 < j {
-        j -= 1;
+    for j in (0..9).rev() {
         set_number(header, 55 + j, whole(totals[j]));
     }
 }
@@ -102,7 +100,7 @@ fn name_of(s: &[u8], first: &[u8; 15], last: &[u8; 15]) -> [u8; 67]
 }
 
 // "SENSING_START, SENSING_END, the name's two times".
-fn set_times(header: &mut [u8], s: &[u8], start: Time, stop: Time)
+fn set_times(header: &mut [u8], s: &[u8], start: Option<Time>, stop: Option<Time>)
     requires { (length header.old ≡ 3307) × (3307 ≤ length s.now) × (is_time start ≡ true) × (is_time stop ≡ true) }
     ensures { Adds header.old header.new (time_lines (value_of s.now 0) start stop) }
 {
@@ -117,8 +115,8 @@ fn set_times(header: &mut [u8], s: &[u8], start: Time, stop: Time)
 // The main header of the cut of s.
 pub(crate) fn put_header(
     s: &[u8],
-    start: Time,
-    stop: Time,
+    start: Option<Time>,
+    stop: Option<Time>,
     totals: &[usize],
     size: usize,
     header: &mut [u8],
@@ -138,7 +136,7 @@ fn is_agreed(m: &[u8], n: &[u8], k: usize) -> bool
     requires { (k < 72) × (length m.now ≡ 3307) × (length n.now ≡ 3307) }
     ensures { SameIs (value_of m.now k) (value_of n.now k) result }
 {
-    let FieldPlace::Place(place) = field_place(k) else {
+    let Ok(place) = field_place(k) else {
         return false;
     };
     is_same(m, place.start + 32, n, place.start + 32, place.width)
@@ -149,33 +147,24 @@ pub(crate) fn four_agree(m: &[u8], n: &[u8]) -> bool
     requires { (length m.now ≡ 3307) × (length n.now ≡ 3307) }
     ensures { Decides (FourAgree m.now n.now) result }
 {
-    if !is_agreed(m, n, 5) {
-        return false;
-    }
-    if !is_agreed(m, n, 7) {
-        return false;
-    }
-    if !is_agreed(m, n, 8) {
-        return false;
-    }
-    is_agreed(m, n, 9)
+    is_agreed(m, n, 5) && is_agreed(m, n, 7) && is_agreed(m, n, 8) && is_agreed(m, n, 9)
 }
 
 // The sum of the numbers of line k, one of 64 to 70; undefined where either is.
-fn sum_on(m: &[u8], n: &[u8], k: usize) -> Number
+fn sum_on(m: &[u8], n: &[u8], k: usize) -> Option<i64>
     requires { Headers m.now n.now × (64 ≤ k) × (k ≤ 70) }
     ensures { result ≡ added m.now n.now k }
 {
-    let FieldPlace::Place(place) = field_place(k) else {
-        return Number::Undefined;
+    let Ok(place) = field_place(k) else {
+        return None;
     };
     let at = place.start + 32;
     let w = place.width;
     if !text::is_value(m, at, w, Kind::Count) {
-        return Number::Undefined;
+        return None;
     }
     if !text::is_value(n, at, w, Kind::Count) {
-        return Number::Undefined;
+        return None;
     }
     whole((count_at(m, at, w) + count_at(n, at, w)) as usize)
 }
@@ -184,7 +173,7 @@ fn sum_fits(m: &[u8], n: &[u8], k: usize) -> bool
     requires { Headers m.now n.now × (64 ≤ k) × (k ≤ 70) }
     ensures { result ≡ fits_line k (number (added m.now n.now k)) }
 {
-    let FieldPlace::Place(place) = field_place(k) else {
+    let Ok(place) = field_place(k) else {
         return false;
     };
     text::fits_number(false, place.width, sum_on(m, n, k))
@@ -195,14 +184,7 @@ pub(crate) fn sums_fit(m: &[u8], n: &[u8]) -> bool
     requires { Headers m.now n.now }
     ensures { Decides (SumsFit m.now n.now) result }
 {
-    let mut k: usize = 64;
-    while k < 71 {
-        if !sum_fits(m, n, k) {
-            return false;
-        }
-        k += 1;
-    }
-    true
+    (64..71).all(|k| sum_fits(m, n, k))
 }
 
 // "Counts and durations add, `x` absorbing".
@@ -210,9 +192,7 @@ fn set_sums(header: &mut [u8], m: &[u8], n: &[u8])
     requires { (length header.old ≡ 3307) × Headers m.now n.now × SumsFit m.now n.now }
     ensures { Adds header.old header.new (sum_lines m.now n.now 64 7) }
 {
-    let mut k: usize = 71;
-    while 64 < k {
-        k -= 1;
+    for k in (64..71).rev() {
         set_number(header, k, sum_on(m, n, k));
     }
 }

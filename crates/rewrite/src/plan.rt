@@ -3,13 +3,13 @@ ghost use Rattle.std.specs.Prelude.{◌≡◌, ◌≤◌, length};
 ghost use Rattle.rewrite.specs.Assembling.{with_pointers, Plannable, PlanIs};
 
 use crate::kinds::kinds_in;
-use calendar::Refusal;
+use calendar::{Refusal, fault};
 
-// 28 or 18; or where the records after the pointers start, and how many bytes the product has.
+// Where the records after the pointers start, and how many bytes the product has.
 #[derive(Clone, Copy)]
-pub enum Plan {
-    Refused(Refusal),
-    Size { base: usize, size: usize },
+pub struct Size {
+    pub base: usize,
+    pub size: usize,
 }
 
 // The totals of the result, where `tally` has those of the records that are carried over.
@@ -30,7 +30,7 @@ pub(crate) fn plan_of(
     kept: usize,
     records: usize,
     room: usize,
-) -> Plan
+) -> Result<Size, Refusal>
     requires { Plannable table.now tally.old front kept records }
     ensures { PlanIs table.now tally.old front kept records room result tally.new }
 {
@@ -38,23 +38,17 @@ pub(crate) fn plan_of(
     add_pointers(tally, records, kinds);
     let base = 3307 + front + 27 * kinds;
     let size = base + kept;
-    if size > 2_147_483_647 {
-        return Plan::Refused(Refusal {
-            number: 28,
-            place: 0,
-        });
-    }
-    if tally[0] > 999_999 {
-        return Plan::Refused(Refusal {
-            number: 28,
+    if size > 2_147_483_647 || tally[0] > 999_999 {
+        return Err(Refusal {
+            number: fault::RESULT_LIMIT,
             place: 0,
         });
     }
     if room < size {
-        return Plan::Refused(Refusal {
-            number: 18,
+        return Err(Refusal {
+            number: fault::ROOM,
             place: size,
         });
     }
-    Plan::Size { base, size }
+    Ok(Size { base, size })
 }

@@ -1,7 +1,7 @@
 // The sections of a product: how many bytes each has, and of its MDRs the first defined start and the last defined stop.
 ghost use Rattle.std.specs.Prelude.{◌≡◌, ◌+◌, ◌≤◌, ◌<◌, length};
 ghost use Rattle.rewrite.specs.Sectioning.{Left, LeftAfter, FirstStartIs, stop_at, LaterIs, StopsOn, LastStopIs};
-ghost use Rattle.rewrite.specs.Sectioning.{PartsOf, SectionOne, Sectioning, FirstMdr, Sectionable, Sectioned};
+ghost use Rattle.rewrite.specs.Sectioning.{SectionOne, Sectioning, FirstMdr, Sectionable, Sectioned};
 
 use crate::times::{is_undefined, time_at};
 use meter::time::Time;
@@ -14,39 +14,35 @@ pub struct Sections {
     pub ipr: usize,
     pub global: usize,
     pub variable: usize,
-    pub start: Time,
-    pub stop: Time,
+    pub start: Option<Time>,
+    pub stop: Option<Time>,
 }
 
 // The first defined start of the records from `from` on.
-fn first_start(s: &[u8], from: usize) -> Time
+fn first_start(s: &[u8], from: usize) -> Option<Time>
     requires { Left s.now from }
     ensures { FirstStartIs s.now from result }
 {
     let mut at = from;
     while at < s.len() {
-        let time = time_at(s, at + 8);
-        match time {
-            Time::Undefined => {
-                at += size_at(s, at);
-            }
-            Time::At { day: _, milli: _ } => {
-                return time;
-            }
+        match time_at(s, at + 8) {
+            Some(time) => return Some(time),
+            None => at += size_at(s, at),
         }
     }
-    Time::Undefined
+    None
 }
 
 // The stop of the record at `place`; none where that is 0.
-fn stop_at(s: &[u8], place: usize) -> Time
+fn stop_at(s: &[u8], place: usize) -> Option<Time>
     requires { place + 20 ≤ length s.now }
     ensures { result ≡ stop_at s.now place }
 {
     if place == 0 {
-        return Time::Undefined;
+        None
+    } else {
+        time_at(s, place + 14)
     }
-    time_at(s, place + 14)
 }
 
 // The place of the last record with a defined stop, with the record at `at`. A processor picks one of two values without a guess.
@@ -84,7 +80,7 @@ fn stop_alike(s: &[u8], from: usize, before: usize) -> Stopped
 }
 
 // The last defined stop of the records from `from` on.
-fn last_stop(s: &[u8], from: usize) -> Time
+fn last_stop(s: &[u8], from: usize) -> Option<Time>
     requires { Left s.now from × (3307 ≤ from) }
     ensures { LastStopIs s.now from result }
 {
@@ -98,46 +94,18 @@ fn last_stop(s: &[u8], from: usize) -> Time
     stop_at(s, place)
 }
 
-fn parts_of(
-    sphr: usize,
-    ipr: usize,
-    global: usize,
-    variable: usize,
-    start: Time,
-    stop: Time,
-) -> Sections
-    ensures { PartsOf sphr ipr global variable start stop result }
-{
-    Sections {
-        sphr,
-        ipr,
-        global,
-        variable,
-        start,
-        stop,
-    }
-}
-
 // What is found with the record at `at`, which is no MDR.
 fn section_one(s: &[u8], at: usize, size: usize, found: Sections) -> Sections
     requires { SectionOne s.now at size found }
     ensures { Sectioning s.now (at + size) result }
 {
     let mut next = found;
-    let class = s[at];
-    if class < 3 {
-        next.sphr = found.sphr + size;
-        return next;
+    match s[at] {
+        0..=2 => next.sphr += size,
+        3 => next.ipr += size,
+        4 | 5 => next.global += size,
+        _ => next.variable += size,
     }
-    if class < 4 {
-        next.ipr = found.ipr + size;
-        return next;
-    }
-    if class < 6 {
-        next.global = found.global + size;
-        return next;
-    }
-    next.variable = found.variable + size;
     next
 }
 
@@ -146,23 +114,25 @@ fn with_mdrs(s: &[u8], at: usize, found: Sections) -> Sections
     requires { FirstMdr s.now at found }
     ensures { Sectioned s.now result }
 {
-    let start = first_start(s, at);
-    let stop = last_stop(s, at);
-    parts_of(
-        found.sphr,
-        found.ipr,
-        found.global,
-        found.variable,
-        start,
-        stop,
-    )
+    Sections {
+        start: first_start(s, at),
+        stop: last_stop(s, at),
+        ..found
+    }
 }
 
 pub(crate) fn sections_of(s: &[u8]) -> Sections
     requires { Sectionable s.now }
     ensures { Sectioned s.now result }
 {
-    let mut found = parts_of(0, 0, 0, 0, Time::Undefined, Time::Undefined);
+    let mut found = Sections {
+        sphr: 0,
+        ipr: 0,
+        global: 0,
+        variable: 0,
+        start: None,
+        stop: None,
+    };
     let mut at: usize = 3307;
     while at < s.len() {
         if s[at] > 7 {

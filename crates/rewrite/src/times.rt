@@ -7,7 +7,7 @@ ghost use Rattle.parts.specs.Cut.{is_up_to, window, within};
 ghost use Rattle.parts.specs.CutHeader.{sooner, later};
 ghost use Rattle.parts.specs.Pass.{is_late};
 
-use meter::time::{Order, Time, TimeOrder};
+use meter::time::{Time, time_order};
 
 fn wide(b: u8) -> u32
     ensures { (result ≡ b) × (result < 256) }
@@ -40,49 +40,35 @@ pub(crate) fn is_undefined(s: &[u8], at: usize) -> bool
 }
 
 // The time of a product that was judged: what its bits say, with nothing left to test.
-pub(crate) fn time_at(s: &[u8], at: usize) -> Time
+pub(crate) fn time_at(s: &[u8], at: usize) -> Option<Time>
     requires { at + 6 ≤ length s.now }
     ensures { result ≡ time_at s.now at }
 {
     let bits = bits_at(s, at);
     if bits == 0xffff_ffff_ffff {
-        return Time::Undefined;
+        return None;
     }
-    Time::At {
+    Some(Time {
         day: (bits / 0x1_0000_0000) as u16,
         milli: (bits % 0x1_0000_0000) as u32,
-    }
+    })
 }
 
 // Not after the other; undefined times have no order.
-pub(crate) fn is_up_to(time: Time, other: Time) -> bool
+pub(crate) fn is_up_to(time: Option<Time>, other: Option<Time>) -> bool
     ensures { result ≡ is_up_to (compared time other) }
 {
-    match meter::time::time_order(time, other) {
-        TimeOrder::Refused(_) => false,
-        TimeOrder::Order(order) => match order {
-            Order::Before => true,
-            Order::Same => true,
-            Order::After => false,
-        },
-    }
+    time_order(time, other).is_ok_and(|order| order.is_le())
 }
 
-pub(crate) fn is_after(time: Time, other: Time) -> bool
+pub(crate) fn is_after(time: Option<Time>, other: Option<Time>) -> bool
     ensures { result ≡ is_after (compared time other) }
 {
-    match meter::time::time_order(time, other) {
-        TimeOrder::Refused(_) => false,
-        TimeOrder::Order(order) => match order {
-            Order::Before => false,
-            Order::Same => false,
-            Order::After => true,
-        },
-    }
+    time_order(time, other).is_ok_and(|order| order.is_gt())
 }
 
 // After the other: at all, or by more than the one millisecond that granules of a pass may overlap.
-pub(crate) fn is_late(identical: bool, stop: Time, start: Time) -> bool
+pub(crate) fn is_late(identical: bool, stop: Option<Time>, start: Option<Time>) -> bool
     ensures { result ≡ is_late identical stop start }
 {
     if identical {
@@ -91,39 +77,28 @@ pub(crate) fn is_late(identical: bool, stop: Time, start: Time) -> bool
     moment::overlap(stop, start) > 1
 }
 
-pub(crate) fn is_within(first: Time, last: Time, time: Time) -> bool
+pub(crate) fn is_within(first: Option<Time>, last: Option<Time>, time: Option<Time>) -> bool
     ensures { result ≡ within (window first last) time }
 {
-    if !is_up_to(first, time) {
-        return false;
-    }
-    is_up_to(time, last)
+    is_up_to(first, time) && is_up_to(time, last)
 }
 
-pub(crate) fn sooner(time: Time, other: Time) -> Time
+pub(crate) fn sooner(time: Option<Time>, other: Option<Time>) -> Option<Time>
     ensures { result ≡ sooner time other }
 {
-    match time {
-        Time::Undefined => other,
-        Time::At { day: _, milli: _ } => {
-            if is_after(time, other) {
-                return other;
-            }
-            time
-        }
+    if time.is_none() || is_after(time, other) {
+        other
+    } else {
+        time
     }
 }
 
-pub(crate) fn later(time: Time, other: Time) -> Time
+pub(crate) fn later(time: Option<Time>, other: Option<Time>) -> Option<Time>
     ensures { result ≡ later time other }
 {
-    match time {
-        Time::Undefined => other,
-        Time::At { day: _, milli: _ } => {
-            if is_after(other, time) {
-                return other;
-            }
-            time
-        }
+    if time.is_none() || is_after(other, time) {
+        other
+    } else {
+        time
     }
 }

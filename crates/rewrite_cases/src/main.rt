@@ -4,9 +4,9 @@
 // last.
 #![tactic(auto)]
 
+use calendar::Refusal;
 use cases::input::{byte, fitting, part, read, read_part, word};
 use cases::print::{number, refusal, say};
-use meter::integer::Written;
 use meter::time::Time;
 use std::io;
 use std::io::{Read, Write};
@@ -15,65 +15,65 @@ const FILL: u8 = 0xaa;
 
 const ROOM: usize = 8192;
 
-// What is asked.
-const CUT: u8 = 0;
+// What is asked: a cut, a join, a join of two granules, or that of all granules of a pass.
+#[derive(Clone, Copy)]
+enum Asked {
+    Cut,
+    Join,
+    JoinPass,
+    Pass,
+}
 
-const JOIN: u8 = 1;
-
-const PASS: u8 = 3;
+impl From<u8> for Asked {
+    fn from(code: u8) -> Asked {
+        match code {
+            0 => Asked::Cut,
+            1 => Asked::Join,
+            3 => Asked::Pass,
+            _ => Asked::JoinPass,
+        }
+    }
+}
 
 // The room starts with `text`, and the rest is as it came.
 fn holds(room: &[u8], text: &[u8]) -> bool {
-    let mut i: usize = 0;
-    while i < room.len() {
-        let due = if i < text.len() { text[i] } else { FILL };
-        if room[i] != due {
-            return false;
-        }
-        i += 1;
-    }
-    text.len() <= room.len()
+    room.starts_with(text) && room[text.len()..].iter().all(|b| *b == FILL)
 }
 
-fn time_of(defined: u8, day: u64, milli: u64) -> Time {
-    if defined == 0 {
-        return Time::Undefined;
-    }
-    Time::At {
+fn time_of(defined: u8, day: u64, milli: u64) -> Option<Time> {
+    (defined != 0).then(|| Time {
         day: (day % 65536) as u16,
         milli: (milli % 0x1_0000_0000) as u32,
-    }
+    })
 }
 
 // How many bytes are written.
-fn print_answer<W: Write>(out: &mut W, answer: Written) -> io::Result<usize> {
+fn print_answer<W: Write>(out: &mut W, answer: Result<usize, Refusal>) -> io::Result<usize> {
     match answer {
-        Written::Bytes(n) => {
+        Ok(n) => {
             say(out, b" written")?;
             number(out, n as u64)?;
             Ok(n)
         }
-        Written::Refused(r) => {
+        Err(r) => {
             refusal(out, r)?;
             Ok(0)
         }
     }
 }
 
-fn cut_of(head: &[u8], bytes: &[u8], room: &mut [u8]) -> Written {
+fn cut_of(head: &[u8], bytes: &[u8], room: &mut [u8]) -> Result<usize, Refusal> {
     let first = time_of(byte(head, 17), word(head, 18, 2), word(head, 20, 4));
     let last = time_of(byte(head, 24), word(head, 25, 2), word(head, 27, 4));
     rewrite::cut::cut(bytes, first, last, room)
 }
 
-fn written_of(head: &[u8], bytes: &[u8], second: &[u8], room: &mut [u8]) -> Written {
-    if byte(head, 16) == CUT {
-        return cut_of(head, bytes, room);
+fn written_of(head: &[u8], bytes: &[u8], second: &[u8], room: &mut [u8]) -> Result<usize, Refusal> {
+    match Asked::from(byte(head, 16)) {
+        Asked::Cut => cut_of(head, bytes, room),
+        Asked::Join => rewrite::join::join(bytes, second, room),
+        Asked::JoinPass | Asked::Pass => rewrite::join::join_pass(bytes, second, room),
     }
-    if byte(head, 16) == JOIN {
-        return rewrite::join::join(bytes, second, room);
-    }
-    rewrite::join::join_pass(bytes, second, room)
 }
 
 fn write_into<W: Write>(
@@ -117,21 +117,16 @@ fn run_rooms<R: Read, W: Write>(
     second: &[u8],
     text: &[u8],
 ) -> io::Result<()> {
-    let rooms = word(head, 12, 4);
-    let mut i: u64 = 0;
-    while i < rooms {
+    for _ in 0..word(head, 12, 4) {
         run_room(input, out, head, bytes, second, text)?;
-        i += 1;
     }
     Ok(())
 }
 
 // The bytes, and zeros after them.
 fn keep(pass: &mut [u8], bytes: &[u8]) {
-    let mut i: usize = 0;
-    while i < pass.len() {
-        pass[i] = byte(bytes, i);
-        i += 1;
+    for (i, b) in pass.iter_mut().enumerate() {
+        *b = byte(bytes, i);
     }
 }
 
@@ -150,11 +145,11 @@ fn join_next<R: Read, W: Write>(
     let m = read_part(input, second, word(&size, 0, 4) as usize)?;
     let mut room = [FILL; ROOM];
     match rewrite::join::join_pass(part(pass, 0, n), part(second, 0, m), &mut room) {
-        Written::Bytes(k) => {
+        Ok(k) => {
             keep(pass, part(&room, 0, k));
             Ok(k)
         }
-        Written::Refused(r) => {
+        Err(r) => {
             refusal(out, r)?;
             Ok(0)
         }
@@ -171,10 +166,8 @@ fn join_others<R: Read, W: Write>(
     others: u64,
 ) -> io::Result<usize> {
     let mut size: usize = n;
-    let mut i: u64 = 0;
-    while i < others {
+    for _ in 0..others {
         size = join_next(input, out, pass, size, second)?;
-        i += 1;
     }
     Ok(size)
 }
@@ -208,7 +201,7 @@ fn run_case<R: Read, W: Write>(
     let n = read_part(input, bytes, word(head, 0, 4) as usize)?;
     let m = read_part(input, second, word(head, 4, 4) as usize)?;
     let t = read_part(input, text, word(head, 8, 4) as usize)?;
-    if byte(head, 16) == PASS {
+    if let Asked::Pass = Asked::from(byte(head, 16)) {
         return run_pass(input, out, head, bytes, n, second, &text[..t]);
     }
     run_rooms(input, out, head, &bytes[..n], &second[..m], &text[..t])

@@ -15,20 +15,20 @@ use lib.ListN.{length, get_or, set, take, drop, length-set, length-append, lengt
 use lib.Seq.{get_or-set_same, get_or-set_other, get_or-append-add, get_or-drop, take_at}
 use Rattle.calendar.specs.Said.{answer}
 use Rattle.meter.specs.General.{number_of, put_x}
-use Rattle.meter.specs.declared.integer.Written.{Written}
-use Rattle.meter.specs.declared.integer.Written.TheVariants as W
+use Rattle.std.specs.declared.option.Option.TheVariants.{Some, None}
+use Rattle.std.specs.declared.result.Result.TheVariants.{Ok}
+use Rattle.std.specs.declared.option.Option.{Option}
+use Rattle.std.specs.declared.result.Result.{Result}
+use Rattle.calendar.specs.declared.Refusal.{Refusal}
+use Rattle.calendar.specs.Said.{said}
 use Rattle.meter.proofs.WriterLaws.{beyond, done}
 use Rattle.meter.proofs.GeneralRuns.{and_true, each_in, in_each}
 use Rattle.meter.proofs.GeneralWrite as Times
-use Rattle.text.specs.Field.{is_text, is_x, is_number, integer_of, spaces, is_value, number_read_at, said_number}
+use Rattle.text.specs.Field.{is_text, is_x, is_number, integer_of, spaces, is_value, number_read_at}
 use Rattle.text.specs.Grammar.{In, NumberIn}
 use Rattle.text.specs.Writing.{below, spelled, fits_number, mark, still, put_rest, put_whole, put_number, fits_text, put_text, WritesNumber, WritesText}
 use Rattle.text.specs.declared.Kind.{Kind}
 use Rattle.text.specs.declared.Kind.TheVariants.{Text, Unsigned, Count, Signed}
-use Rattle.text.specs.declared.Number.{Number}
-use Rattle.text.specs.declared.Number.TheVariants as N
-use Rattle.text.specs.declared.NumberRead.{NumberRead}
-use Rattle.text.specs.declared.NumberRead.TheVariants as R
 use Rattle.text.proofs.Laws.{read_x, read_whole, fits_some, text_wide}
 use Rattle.text.proofs.Meaning.{means_number, means_x, spaces_are}
 use Rattle.text.proofs.Exact.{not_x}
@@ -49,14 +49,14 @@ rest_after a (suc n) minus v j h = rest_after (set a n (mark minus v)) n (still 
 rest_last : (a : List ℕ) (n : ℕ) (b : ℕ) (minus : Bool) (v : ℕ) → n < length a → get_or (put_rest (set a n b) n minus v) n 0 ≡ b
 rest_last a n b minus v h = rest_after (set a n b) n minus v n (omega arith) ∙ get_or-set_same a n b 0 h
 
-pub number_length : (w : ℕ) (a : List ℕ) (x : Number) → length (put_number w a x) ≡ length a
-number_length w a N.Undefined = Times.x_length a w
-number_length w a (N.Whole z) =
+pub number_length : (w : ℕ) (a : List ℕ) (x : Option ℤ) → length (put_number w a x) ≡ length a
+number_length w a None = Times.x_length a w
+number_length w a (Some z) =
     rest_length (set a (w - 1) (48 + nat_abs z % 10)) (w - 1) (below z) (nat_abs z / 10) ∙ length-set a (w - 1) (48 + nat_abs z % 10)
 
-pub number_kept : (w : ℕ) (a : List ℕ) (x : Number) (j : ℕ) → 0 < w → w ≤ j → get_or (put_number w a x) j 0 ≡ get_or a j 0
-number_kept w a N.Undefined j s h = Times.x_after a w j h
-number_kept w a (N.Whole z) j s h =
+pub number_kept : (w : ℕ) (a : List ℕ) (x : Option ℤ) (j : ℕ) → 0 < w → w ≤ j → get_or (put_number w a x) j 0 ≡ get_or a j 0
+number_kept w a None j s h = Times.x_after a w j h
+number_kept w a (Some z) j s h =
     rest_after (set a (w - 1) (48 + nat_abs z % 10)) (w - 1) (below z) (nat_abs z / 10) j (omega arith)
     ∙ get_or-set_other a (w - 1) j (48 + nat_abs z % 10) 0 (λ e. omega arith)
 
@@ -259,35 +259,35 @@ number_written : (signed : Bool) (w : ℕ) (a : List ℕ) (z : ℤ) → 0 < w �
 number_written signed zero a z s h f = absurd (omega arith)
 number_written signed (suc n) a z s h f = (means_number signed (put_whole a (suc n) z) 0 (suc n) (whole_in signed n a z h f), whole_value signed n a z h f)
 
-written_inside : (w : ℕ) (a : List ℕ) (x : Number) → w ≤ length a → leb (0 + w) (length (put_number w a x)) ≡ true
+written_inside : (w : ℕ) (a : List ℕ) (x : Option ℤ) → w ≤ length a → leb (0 + w) (length (put_number w a x)) ≡ true
 written_inside w a x h = le-leb (0 + w) (length (put_number w a x)) (omega (arith, number_length w a x))
 
 -- WHAT IS WRITTEN READS BACK
-pub number_back : (signed : Bool) (w : ℕ) (a : List ℕ) (x : Number) → fits_number signed w x ≡ true → w ≤ length a → number_read_at signed w (put_number w a x) 0 ≡ answer x
-number_back signed w a N.Undefined f h =
+pub number_back : (signed : Bool) (w : ℕ) (a : List ℕ) (x : Option ℤ) → fits_number signed w x ≡ true → w ≤ length a → number_read_at signed w (put_number w a x) 0 ≡ answer x
+number_back signed w a None f h =
     let t = and_true (ltb 0 w) _ f in
-    sym (read_x signed (put_x a w) 0 w (written_inside w a N.Undefined h) (leb-true w 17 t.1) (x_written w a (ltb-true 0 w t.0) h))
-number_back signed w a (N.Whole z) f h =
+    sym (read_x signed (put_x a w) 0 w (written_inside w a None h) (leb-true w 17 t.1) (x_written w a (ltb-true 0 w t.0) h))
+number_back signed w a (Some z) f h =
     let u = and_true (ltb 0 w && leb w 17) _ f in
     let t = and_true (ltb 0 w) _ u.0 in
     let k = number_written signed w a z (ltb-true 0 w t.0) h u.1 in
     let b = put_whole a w z in
-    sym (read_whole signed b 0 w (written_inside w a (N.Whole z) h) (leb-true w 17 t.1) (not_x signed b 0 w k.0) k.0 z (sym k.1))
+    sym (read_whole signed b 0 w (written_inside w a (Some z) h) (leb-true w 17 t.1) (not_x signed b 0 w k.0) k.0 z (sym k.1))
 
 -- WHAT IS WRITTEN IS A VALUE of the kind, and of a size or a total unless it is undefined
-pub number_valued : (signed : Bool) (w : ℕ) (a : List ℕ) (x : Number) → fits_number signed w x ≡ true → w ≤ length a → is_value (numeric signed) (put_number w a x) 0 w ≡ true
-number_valued signed w a N.Undefined f h =
-    number_of_kind signed (put_x a w) 0 w (either_true (is_number signed (put_x a w) 0 w) (is_x (put_x a w) 0 w) (inr (x_written w a (fits_some signed w N.Undefined f) h)))
-number_valued signed w a (N.Whole z) f h =
+pub number_valued : (signed : Bool) (w : ℕ) (a : List ℕ) (x : Option ℤ) → fits_number signed w x ≡ true → w ≤ length a → is_value (numeric signed) (put_number w a x) 0 w ≡ true
+number_valued signed w a None f h =
+    number_of_kind signed (put_x a w) 0 w (either_true (is_number signed (put_x a w) 0 w) (is_x (put_x a w) 0 w) (inr (x_written w a (fits_some signed w None f) h)))
+number_valued signed w a (Some z) f h =
     let u = and_true (ltb 0 w && leb w 17) _ f in
     let b = put_whole a w z in
-    number_of_kind signed b 0 w (either_true (is_number signed b 0 w) (is_x b 0 w) (inl (number_written signed w a z (fits_some signed w (N.Whole z) f) h u.1).0))
+    number_of_kind signed b 0 w (either_true (is_number signed b 0 w) (is_x b 0 w) (inl (number_written signed w a z (fits_some signed w (Some z) f) h u.1).0))
 
-pub count_valued : (w : ℕ) (a : List ℕ) (z : ℤ) → fits_number false w (N.Whole z) ≡ true → w ≤ length a → is_value Count (put_number w a (N.Whole z)) 0 w ≡ true
+pub count_valued : (w : ℕ) (a : List ℕ) (z : ℤ) → fits_number false w (Some z) ≡ true → w ≤ length a → is_value Count (put_number w a (Some z)) 0 w ≡ true
 unfolding is_value
 count_valued w a z f h =
     let u = and_true (ltb 0 w && leb w 17) _ f in
-    (number_written false w a z (fits_some false w (N.Whole z) f) h u.1).0
+    (number_written false w a z (fits_some false w (Some z) f) h u.1).0
 
 -- ---- texts
 pub text_length : (a t : List ℕ) → length t ≤ length a → length (put_text a t) ≡ length a
@@ -312,8 +312,8 @@ unfolding is_value
 text_valued w a t f = (text_back w a t f).1
 
 -- ---- THE WRITERS, by their promises: what lies beyond is kept, whatever is answered
-module _ (room exit : List ℕ) (r : Written) (w j : ℕ) (h : w ≤ j) where
-  pub write_number_keeps : (signed : Bool) (x : Number) → WritesNumber room w signed x r exit → get_or exit j 0 ≡ get_or room j 0
+module _ (room exit : List ℕ) (r : Result ℕ Refusal) (w j : ℕ) (h : w ≤ j) where
+  pub write_number_keeps : (signed : Bool) (x : Option ℤ) → WritesNumber room w signed x r exit → get_or exit j 0 ≡ get_or room j 0
   write_number_keeps signed x p = beyond room w (fits_number signed w x) (put_number w room x) exit j p.1 (λ f _. number_kept w room x j (fits_some signed w x f) h)
 
   pub write_text_keeps : (t : List ℕ) → WritesText room w t r exit → get_or exit j 0 ≡ get_or room j 0
@@ -321,12 +321,12 @@ module _ (room exit : List ℕ) (r : Written) (w j : ℕ) (h : w ≤ j) where
 
 -- and where bytes are answered, what was written reads back
 module _ (room exit : List ℕ) (m w : ℕ) where
-  pub write_number_back : (signed : Bool) (x : Number) → WritesNumber room w signed x (W.Bytes m) exit → (r : NumberRead) → said_number r ≡ number_read_at signed w exit 0 → r ≡ R.Number x
+  pub write_number_back : (signed : Bool) (x : Option ℤ) → WritesNumber room w signed x (Ok m) exit → (r : Result (Option ℤ) Refusal) → said r ≡ number_read_at signed w exit 0 → r ≡ Ok x
   write_number_back signed x p r e =
       let d = done room w (fits_number signed w x) (put_number w room x) exit 21 m p.0 p.1 in
-      unique_read_number signed w exit 0 r (R.Number x) e (rw d.left (sym (number_back signed w room x d.fits d.room_is)))
+      unique_read_number signed w exit 0 r (Ok x) e (rw d.left (sym (number_back signed w room x d.fits d.room_is)))
 
-  pub write_text_back : (t : List ℕ) → WritesText room w t (W.Bytes m) exit → take w exit ≡ t
+  pub write_text_back : (t : List ℕ) → WritesText room w t (Ok m) exit → take w exit ≡ t
   write_text_back t p =
       let d = done room w (fits_text w t) (put_text room t) exit 21 m p.0 p.1 in
       rw d.left (text_back w room t d.fits).0

@@ -1,6 +1,5 @@
 -- Each of some bytes is lo to hi, by the least and the greatest of them: what bounds them all bounds these two. Assumes nothing.
 use Prim.Native.Nat.{ℕ, ◌+◌, ◌≤◌, ◌<◌}
-use native.Mathlib.Nat.{le_refl}
 use native.Mathlib.Decide.{dec_lt}
 use native.Mathlib.Omega.{arith}
 use mathlib.Core.Path.{◌≡◌, refl, sym, ◌∙◌}
@@ -22,16 +21,6 @@ not_so true f = absurd (f refl)
 not_so false f = refl
 
 module _ {lo hi : ℕ} {a : List ℕ} {i : ℕ} where
-  pub bounds_none : Bounds lo hi a i 0 lo hi
-  bounds_none = record { between = λ k h. absurd (omega arith); tight = λ _. (le_refl _, le_refl _) }
-
-  pub bounds_more : {j least most l m : ℕ} → Bounds lo hi a i j least most → l ≤ least → l ≤ get_or a (i + j) 0 → most ≤ m → get_or a (i + j) 0 ≤ m → (lo ≤ least → lo ≤ get_or a (i + j) 0 → lo ≤ l) → (most ≤ hi → get_or a (i + j) 0 ≤ hi → m ≤ hi) → Bounds lo hi a i (j + 1) l m
-  bounds_more {j} {least} {most} {l} {m} b p q r s t u = record { between = λ k h. go k h (dec_lt k j); tight = λ f. let v = b.tight (λ k h. f k (omega arith)) in let w = f j (omega arith) in (t v.0 w.0, u v.1 w.1) }
-    where
-      go : (k : ℕ) → k < j + 1 → Dec (k < j) → In l m (get_or a (i + k) 0)
-      go k h (yes g) = let v = b.between k g in (omega (arith, v.0), omega (arith, v.1))
-      go k h (no g) = let e : k ≡ j = omega arith in rw e (q, s)
-
   pub each_low : {n least most : ℕ} → Bounds lo hi a i n least most → least < lo → false ≡ each lo hi a i n
   each_low {n} b h = sym (not_so (each lo hi a i n) (λ e. omega (arith, (b.tight (each_in lo hi a i n e)).0)))
 

@@ -17,7 +17,7 @@ use Rattle.meter.proofs.GeneralRuns.{number_join}
 use Rattle.text.specs.Field.{is_x, is_number, integer_of, is_value, number_read_at, count_at}
 use Rattle.text.specs.Grammar.{NumberIn}
 use Rattle.text.specs.declared.Kind.TheVariants.{Count}
-use Rattle.text.specs.declared.Number.TheVariants as N
+use Rattle.std.specs.declared.option.Option.TheVariants.{Some}
 use Rattle.text.proofs.Meaning.{number_means, x_means, spaces_are}
 use Rattle.text.proofs.Laws.{read_whole}
 
@@ -95,7 +95,7 @@ pub count_small : (a : List ℕ) (i w : ℕ) → is_value Count a i w ≡ true �
 unfolding is_value
 count_small a i w e = is_small false a i w e
 
-pub count_read : (a : List ℕ) (i w : ℕ) → is_value Count a i w ≡ true → w ≤ 17 → i + w ≤ length a → number_read_at false w a i ≡ answer (N.Whole (pos (number_of a i w)))
+pub count_read : (a : List ℕ) (i w : ℕ) → is_value Count a i w ≡ true → w ≤ 17 → i + w ≤ length a → number_read_at false w a i ≡ answer (Some (pos (number_of a i w)))
 unfolding is_value
 count_read a i w e l h =
     sym (read_whole false a i w (le-leb (i + w) (length a) h) l (not_x false a i w e) e (pos (number_of a i w)) (sym (integer_unsigned a i w e)))

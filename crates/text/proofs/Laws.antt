@@ -2,15 +2,14 @@
 -- there decide the definition's conditions. By rewriting. Assumes nothing.
 use mathlib.Core.Path.{◌≡◌, refl, sym, ap, ◌∙◌, subst}
 use mathlib.Core.Bool.{Bool, true, false, cond, ◌&&◌, true≢false}
-use mathlib.Core.List.{List, ◌++◌, append_assoc}
+use mathlib.Core.List.{List}
 use Prim.Native.Nat.{ℕ, zero, suc, ◌+◌, ◌-◌, ◌/◌, ◌%◌, ◌^◌, ◌≤◌, ◌<◌}
 use native.Mathlib.Decide.{dec_lt}
 use native.Mathlib.Omega.{arith}
 use borrow.Author.Tests.{lt-leb, le-leb, le-ltb, lt-ltb, ltb-true, eq-eqb, ne_eqb, eqb-true}
 use lib.Dec.{eqb, leb, ltb}
 use lib.IntN.{ℤ, pos, negsuc, nat_abs, neg_ℤ, ◌-ℤ◌}
-use lib.ListN.{length, get_or, set, take, drop}
-use lib.Seq.{drop-cons, take-suc, set_at, length-take-le}
+use lib.ListN.{length, get_or, set}
 use lib.Signed.{lt_z}
 use mir.Syntax.{w64}
 use mir.Val.{SFits, to_z}
@@ -19,13 +18,13 @@ use Rattle.calendar.specs.Said.{answer, refusal, refused}
 use Rattle.calendar.specs.declared.Refusal.{Refusal}
 use Rattle.meter.specs.Lent.{inside, writes, wrote}
 use Rattle.meter.specs.General.{digits_of, run_of, number_of, is_general, general_read_at}
-use Rattle.meter.specs.declared.general.General.{General}
+use Rattle.std.specs.declared.option.Option.TheVariants.{Some, None}
+use Rattle.std.specs.declared.option.Option.{Option}
+use Rattle.meter.specs.declared.general.Moment.{Moment}
 use Rattle.meter.proofs.GeneralRuns.{and_true}
 use Rattle.text.specs.Field.{is_x, signs, spaces, is_number, integer_of, is_value, number_read_at}
 use Rattle.text.specs.Writing.{below, spelled, fits_number, mark, still, put_rest, put_whole, fits_text}
 use Rattle.text.specs.declared.Kind.{Kind}
-use Rattle.text.specs.declared.Number.{Number}
-use Rattle.text.specs.declared.Number.TheVariants as N
 
 -- ---- is_x
 module _ (a : List ℕ) (i w : ℕ) where
@@ -74,7 +73,7 @@ module _ (long : Bool) (a : List ℕ) (i w due : ℕ) (e : due ≡ digits_of lon
     whole : i + (digits_of long + 1) ≤ length a
     whole = omega arith
 
-    pub time_read : (g : General) → answer g ≡ general_read_at long a i → true ≡ eqb w (digits_of long + 1) && is_general (digits_of long) a i
+    pub time_read : (g : Option Moment) → answer g ≡ general_read_at long a i → true ≡ eqb w (digits_of long + 1) && is_general (digits_of long) a i
     time_read g r =
         rw (eq-eqb w (digits_of long + 1) (same ∙ e))
         (answered (is_general (digits_of long) a i) g _ (rw (le-leb (i + (digits_of long + 1)) (length a) whole) at r))
@@ -116,13 +115,13 @@ module _ (signed : Bool) (a : List ℕ) (i w : ℕ) (h : leb (i + w) (length a) 
   read_wide l = rw (h, lt-leb w 17 l)
 
   module _ (l : w ≤ 17) where
-    pub read_x : is_x a i w ≡ true → answer N.Undefined ≡ number_read_at signed w a i
+    pub read_x : is_x a i w ≡ true → answer None ≡ number_read_at signed w a i
     read_x x = rw (h, le-leb w 17 l, x)
 
     pub read_wrong : is_x a i w ≡ false → is_number signed a i w ≡ false → refusal 21 0 ≡ number_read_at signed w a i
     read_wrong x n = rw (h, le-leb w 17 l, x, n)
 
-    pub read_whole : is_x a i w ≡ false → is_number signed a i w ≡ true → (z : ℤ) → z ≡ integer_of a i w → answer (N.Whole z) ≡ number_read_at signed w a i
+    pub read_whole : is_x a i w ≡ false → is_number signed a i w ≡ true → (z : ℤ) → z ≡ integer_of a i w → answer (Some z) ≡ number_read_at signed w a i
     read_whole x n z e = rw (h, le-leb w 17 l, x, n, e)
 
 -- ---- spells
@@ -150,20 +149,20 @@ spelled_below w (pos n) h t = absurd (omega (arith, ltb-true n 0 t))
 spelled_below w (negsuc n) h t = one_byte w n h (dec_lt 1 w)
 
 -- ---- fits_number
-pub fits_wide : (signed : Bool) (w : ℕ) (x : Number) → ltb 0 w && leb w 17 ≡ false → false ≡ fits_number signed w x
-fits_wide signed w N.Undefined e = sym e
-fits_wide signed w (N.Whole z) e = rw e
+pub fits_wide : (signed : Bool) (w : ℕ) (x : Option ℤ) → ltb 0 w && leb w 17 ≡ false → false ≡ fits_number signed w x
+fits_wide signed w None e = sym e
+fits_wide signed w (Some z) e = rw e
 
-module _ (signed : Bool) (w : ℕ) (x : Number) (some : 0 < w) (l : w ≤ 17) where
-  pub fits_undefined : x ≡ N.Undefined → true ≡ fits_number signed w x
+module _ (signed : Bool) (w : ℕ) (x : Option ℤ) (some : 0 < w) (l : w ≤ 17) where
+  pub fits_undefined : x ≡ None → true ≡ fits_number signed w x
   fits_undefined e = rw (e, lt-ltb 0 w some, le-leb w 17 l)
 
-  pub fits_whole : (z : ℤ) → x ≡ N.Whole z → spelled signed w z ≡ fits_number signed w x
+  pub fits_whole : (z : ℤ) → x ≡ Some z → spelled signed w z ≡ fits_number signed w x
   fits_whole z e = rw (e, lt-ltb 0 w some, le-leb w 17 l)
 
-pub fits_some : (signed : Bool) (w : ℕ) (x : Number) → fits_number signed w x ≡ true → 0 < w
-fits_some signed w N.Undefined e = ltb-true 0 w (and_true (ltb 0 w) _ e).0
-fits_some signed w (N.Whole z) e = ltb-true 0 w (and_true (ltb 0 w) _ (and_true (ltb 0 w && leb w 17) _ e).0).0
+pub fits_some : (signed : Bool) (w : ℕ) (x : Option ℤ) → fits_number signed w x ≡ true → 0 < w
+fits_some signed w None e = ltb-true 0 w (and_true (ltb 0 w) _ e).0
+fits_some signed w (Some z) e = ltb-true 0 w (and_true (ltb 0 w) _ (and_true (ltb 0 w && leb w 17) _ e).0).0
 
 -- ---- the writers: f is what was found of `right`
 module _ (room : List ℕ) (w : ℕ) (right f : Bool) (ef : f ≡ right) (new : List ℕ) where
@@ -182,7 +181,7 @@ whole_put a w z s m b es em e = rw (← es, ← em) e
 pub text_wide : (w : ℕ) (t : List ℕ) → fits_text w t ≡ true → length t ≡ w
 text_wide w t e = eqb-true (length t) w (and_true (eqb (length t) w) _ e).0
 
--- ---- put_rest, put_x, put_text: what a turn of the loop stores
+-- ---- put_rest: what a turn of the loop stores
 pub rest_step : (a : List ℕ) (n : ℕ) (minus : Bool) (v : ℕ) → 0 < n → put_rest a n minus v ≡ put_rest (set a (n - 1) (mark minus v)) (n - 1) (still minus v) (v / 10)
 unfolding put_rest
 rest_step a zero minus v h = absurd (omega arith)
@@ -192,8 +191,3 @@ pub rest_none : (a : List ℕ) (n : ℕ) (minus : Bool) (v : ℕ) → n ≡ 0 �
 unfolding put_rest
 rest_none a zero minus v h = refl
 rest_none a (suc k) minus v h = absurd (omega arith)
-
-pub text_step : (a t : List ℕ) (i : ℕ) → i < length t → i < length a → set (take i t ++ drop i a) i (get_or t i 0) ≡ take (suc i) t ++ drop (suc i) a
-text_step a t i h g =
-    let e : length (take i t) ≡ i = length-take-le i t (omega arith) in
-    rw (drop-cons a i 0 g, set_at (take i t) (get_or a i 0) (drop (suc i) a) (get_or t i 0) i e, take-suc t i 0 h) (simp append_assoc)

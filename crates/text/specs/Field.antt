@@ -3,15 +3,13 @@
 -- the nine totals"). A field is the w bytes of a from i on. These are the tests that the code is proved against; specs/Grammar.antt says the
 -- same as a grammar. Assumes nothing.
 use Rattle.std.specs.Prelude.{ℕ, ◌+◌, ◌-◌, Bool, true, false, cond, ◌&&◌, ◌||◌, List, eqb, ltb, leb, ℤ, pos, neg_ℤ, get_or}
-use Rattle.calendar.specs.Said.{Said, answer, refused}
+use Rattle.calendar.specs.Said.{Said}
 use Rattle.meter.specs.Lent.{inside, reads}
 use Rattle.meter.specs.General.{run_of, each, number_of, is_general}
 use Rattle.text.specs.declared.Kind.{Kind}
 use Rattle.text.specs.declared.Kind.TheVariants.{Text, Unsigned, Count, Signed, Time, LongTime}
-use Rattle.text.specs.declared.Number.{Number}
-use Rattle.text.specs.declared.Number.TheVariants as N
-use Rattle.text.specs.declared.NumberRead.{NumberRead}
-use Rattle.text.specs.declared.NumberRead.TheVariants as R
+use Rattle.std.specs.declared.option.Option.TheVariants.{Some, None}
+use Rattle.std.specs.declared.option.Option.{Option}
 
 -- text: bytes 32 to 126
 abbrev pub is_text : List ℕ → ℕ → ℕ → Bool
@@ -55,17 +53,12 @@ is_value LongTime a i w = eqb w 18 && is_general 17 a i
 abbrev pub is_numeric : Bool → List ℕ → ℕ → ℕ → Bool
 is_numeric signed a i w = leb w 17 && (is_x a i w || is_number signed a i w)
 
-abbrev pub number_at : List ℕ → ℕ → ℕ → Number
-number_at a i w = cond (is_x a i w) N.Undefined (N.Whole (integer_of a i w))
+abbrev pub number_at : List ℕ → ℕ → ℕ → Option ℤ
+number_at a i w = cond (is_x a i w) None (Some (integer_of a i w))
 
-abbrev pub number_read_at : Bool → ℕ → List ℕ → ℕ → Said Number
+abbrev pub number_read_at : Bool → ℕ → List ℕ → ℕ → Said (Option ℤ)
 number_read_at signed w a at = reads a at w (is_numeric signed a at w) (number_at a at w)
 
 -- THE COUNT: the number of a field that is one without a sign, as the size and the totals are; 0 of any other, and where its bytes are not all there
 abbrev pub count_at : List ℕ → ℕ → ℕ → ℕ
 count_at a at w = cond (inside a at w && (leb w 17 && is_number false a at w)) (number_of a at w) 0
-
--- what an answer says
-abbrev pub said_number : NumberRead → Said Number
-said_number (R.Number x) = answer x
-said_number (R.Refused r) = refused r

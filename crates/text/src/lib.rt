@@ -2,15 +2,16 @@
 #![tactic(auto)]
 
 ghost use Rattle.std.specs.Prelude.{◌≡◌, ◌&&◌, ◌||◌, ℕ, ◌+◌, ◌-◌, ◌^◌, ◌≤◌, ◌<◌, eqb, nat_abs, length};
+ghost use Rattle.calendar.specs.Said.{said};
 ghost use Rattle.meter.specs.Lent.{inside};
 ghost use Rattle.meter.specs.General.{digits_of, run_of, each, number_of, is_general, put_x};
-ghost use Rattle.text.specs.Field.{is_x, signs, spaces, is_number, integer_of, is_value, number_read_at, count_at, said_number};
+ghost use Rattle.text.specs.Field.{is_x, signs, spaces, is_number, integer_of, is_value, number_read_at, count_at};
 ghost use Rattle.text.specs.Writing.{spelled, fits_number, mark, still, put_rest, put_whole, put_number, WritesNumber};
 ghost use Rattle.text.specs.Writing.{fits_text, put_text, WritesText};
 
-use calendar::Refusal;
-use meter::general::GeneralRead;
-use meter::integer::{Written, holds};
+use calendar::{Refusal, fault};
+use meter::general::run;
+use meter::integer::holds;
 
 // Count is the kind of the size and the totals: an unsigned number that is never undefined.
 #[derive(Clone, Copy)]
@@ -23,49 +24,6 @@ pub enum Kind {
     LongTime,
 }
 
-#[derive(Clone, Copy)]
-pub enum Number {
-    Undefined,
-    Whole(i64),
-}
-
-#[derive(Clone, Copy)]
-pub enum NumberRead {
-    Number(Number),
-    Refused(Refusal),
-}
-
-// How many of the n bytes from `at` on are `lo` to `hi`, up to the first that is not.
-fn run(bytes: &[u8], at: usize, n: usize, lo: u8, hi: u8) -> usize
-    requires { at + n ≤ length bytes.now }
-    ensures { (result ≡ run_of lo hi bytes.now at n) × (result ≤ n) }
-{
-    let mut j: usize = 0;
-    while j < n {
-        let b = bytes[at + j];
-        if b < lo {
-            return j;
-        }
-        if hi < b {
-            return j;
-        }
-        j += 1;
-    }
-    j
-}
-
-fn lesser(a: u8, b: u8) -> u8
-    ensures { (result ≤ a) × (result ≤ b) × ((m : ℕ) → m ≤ a → m ≤ b → m ≤ result) }
-{
-    if a < b { a } else { b }
-}
-
-fn greater(a: u8, b: u8) -> u8
-    ensures { (a ≤ result) × (b ≤ result) × ((m : ℕ) → a ≤ m → b ≤ m → result ≤ m) }
-{
-    if a < b { b } else { a }
-}
-
 // Each of the n bytes from `at` on is `lo` to `hi`. The least and the greatest of them tell: a loop that has no other way out is done
 // sixteen bytes at a time, which pays where the field is wide.
 fn is_each(bytes: &[u8], at: usize, n: usize, lo: u8, hi: u8) -> bool
@@ -74,11 +32,9 @@ fn is_each(bytes: &[u8], at: usize, n: usize, lo: u8, hi: u8) -> bool
 {
     let mut least = lo;
     let mut most = hi;
-    let mut j: usize = 0;
-    while j < n {
-        least = lesser(least, bytes[at + j]);
-        most = greater(most, bytes[at + j]);
-        j += 1;
+    for b in &bytes[at..at + n] {
+        least = least.min(*b);
+        most = most.max(*b);
     }
     if least < lo {
         return false;
@@ -93,7 +49,7 @@ fn is_x(bytes: &[u8], at: usize, width: usize) -> bool
     if width == 0 {
         return false;
     }
-    run(bytes, at, width, 120, 120) == width
+    run(&bytes[at..at + width], 120, 120) == width
 }
 
 // The bytes that a sign takes.
@@ -114,7 +70,7 @@ fn is_number(bytes: &[u8], at: usize, width: usize, signed: bool) -> bool
     requires { at + width ≤ length bytes.now }
     ensures { result ≡ is_number signed bytes.now at width }
 {
-    let blank = run(bytes, at, width, 32, 32);
+    let blank = run(&bytes[at..at + width], 32, 32);
     if width <= blank {
         return false;
     }
@@ -122,7 +78,7 @@ fn is_number(bytes: &[u8], at: usize, width: usize, signed: bool) -> bool
     if width <= m {
         return false;
     }
-    run(bytes, at + m, width - m, 48, 57) == width - m
+    run(&bytes[at + m..at + width], 48, 57) == width - m
 }
 
 fn is_numeric(bytes: &[u8], at: usize, width: usize, signed: bool) -> bool
@@ -145,8 +101,8 @@ fn is_time(bytes: &[u8], at: usize, width: usize, long: bool) -> bool
         return false;
     }
     match meter::general::read_general(bytes, at, long) {
-        GeneralRead::Time(_) => true,
-        GeneralRead::Refused(_) => false,
+        Ok(_) => true,
+        Err(_) => false,
     }
 }
 
@@ -179,10 +135,8 @@ fn number_of(bytes: &[u8], at: usize, n: usize) -> u64
     ensures { result ≡ number_of bytes.now at n }
 {
     let mut v: u64 = 0;
-    let mut j: usize = 0;
-    while j < n {
-        v = v * 10 + digit(bytes[at + j]);
-        j += 1;
+    for b in &bytes[at..at + n] {
+        v = v * 10 + digit(*b);
     }
     v
 }
@@ -193,7 +147,7 @@ fn integer(bytes: &[u8], at: usize, width: usize) -> i64
     ensures { result ≡ integer_of bytes.now at width }
 {
     let m = number_of(bytes, at, width);
-    let blank = run(bytes, at, width, 32, 32);
+    let blank = run(&bytes[at..at + width], 32, 32);
     if bytes[at + blank] == 45 {
         0 - (m as i64)
     } else {
@@ -201,31 +155,36 @@ fn integer(bytes: &[u8], at: usize, width: usize) -> i64
     }
 }
 
-pub fn read_number(bytes: &[u8], at: usize, width: usize, signed: bool) -> NumberRead
-    ensures { said_number result ≡ number_read_at signed width bytes.now at }
+pub fn read_number(
+    bytes: &[u8],
+    at: usize,
+    width: usize,
+    signed: bool,
+) -> Result<Option<i64>, Refusal>
+    ensures { said result ≡ number_read_at signed width bytes.now at }
 {
     if !holds(bytes.len(), at, width) {
-        return NumberRead::Refused(Refusal {
-            number: 20,
+        return Err(Refusal {
+            number: fault::OUTSIDE,
             place: bytes.len(),
         });
     }
     if width > 17 {
-        return NumberRead::Refused(Refusal {
-            number: 21,
+        return Err(Refusal {
+            number: fault::MALFORMED,
             place: 0,
         });
     }
     if is_x(bytes, at, width) {
-        return NumberRead::Number(Number::Undefined);
+        return Ok(None);
     }
     if !is_number(bytes, at, width, signed) {
-        return NumberRead::Refused(Refusal {
-            number: 21,
+        return Err(Refusal {
+            number: fault::MALFORMED,
             place: 0,
         });
     }
-    NumberRead::Number(Number::Whole(integer(bytes, at, width)))
+    Ok(Some(integer(bytes, at, width)))
 }
 
 // The number of a field that is one, as the size and the totals are; 0 of any other, and where its bytes are not all there.
@@ -249,24 +208,7 @@ fn power(exponent: usize) -> u64
     requires { exponent ≤ 17 }
     ensures { result ≡ 10 ^ exponent }
 {
-    let mut v: u64 = 1;
-    let mut j: usize = 0;
-    while j < exponent {
-        v = v * 10;
-        j += 1;
-    }
-    v
-}
-
-fn size_of(z: i64) -> u64
-    ensures { result ≡ nat_abs z }
-{
-    if z < 0 {
-        let m = -1 - z;
-        (m as u64) + 1
-    } else {
-        z as u64
-    }
+    10_u64.pow(exponent as u32)
 }
 
 // A field of the width can spell `z`.
@@ -274,7 +216,7 @@ fn spells(signed: bool, width: usize, z: i64) -> bool
     requires { (0 < width) × (width ≤ 17) }
     ensures { result ≡ spelled signed width z }
 {
-    let size = size_of(z);
+    let size = z.unsigned_abs();
     if z < 0 {
         if !signed {
             return false;
@@ -285,7 +227,7 @@ fn spells(signed: bool, width: usize, z: i64) -> bool
 }
 
 // Whether a number can be written in a field of the width: its digits, and a minus where it is signed and below 0.
-pub fn fits_number(signed: bool, width: usize, number: Number) -> bool
+pub fn fits_number(signed: bool, width: usize, number: Option<i64>) -> bool
     ensures { result ≡ fits_number signed width number }
 {
     if width == 0 {
@@ -295,8 +237,8 @@ pub fn fits_number(signed: bool, width: usize, number: Number) -> bool
         return false;
     }
     match number {
-        Number::Undefined => true,
-        Number::Whole(z) => spells(signed, width, z),
+        None => true,
+        Some(z) => spells(signed, width, z),
     }
 }
 
@@ -321,11 +263,9 @@ fn put_rest(room: &mut [u8], n: usize, minus: bool, v: u64)
     requires { n ≤ length room.old }
     ensures { room.new ≡ put_rest room.old n minus v }
 {
-    let mut i = n;
     let mut due = minus;
     let mut rest = v;
-    while 0 < i {
-        i -= 1;
+    for i in (0..n).rev() {
         room[i] = mark_of(due, rest);
         due = is_due(due, rest);
         rest = rest / 10;
@@ -336,7 +276,7 @@ fn put_whole(room: &mut [u8], width: usize, z: i64)
     requires { (0 < width) × (width ≤ length room.old) }
     ensures { room.new ≡ put_whole room.old width z }
 {
-    let size = size_of(z);
+    let size = z.unsigned_abs();
     let last = width - 1;
     room[last] = 48 + ((size % 10) as u8);
     put_rest(room, last, z < 0, size / 10);
@@ -346,41 +286,42 @@ fn put_x(room: &mut [u8], n: usize)
     requires { n ≤ length room.old }
     ensures { room.new ≡ put_x room.old n }
 {
-    let mut i = n;
-    while 0 < i {
-        i -= 1;
-        room[i] = 120;
-    }
+    room[..n].fill(120);
 }
 
-fn put_number(room: &mut [u8], width: usize, number: Number)
+fn put_number(room: &mut [u8], width: usize, number: Option<i64>)
     requires { (0 < width) × (width ≤ length room.old) }
     ensures { room.new ≡ put_number width room.old number }
 {
     match number {
-        Number::Undefined => put_x(room, width),
-        Number::Whole(z) => put_whole(room, width, z),
+        None => put_x(room, width),
+        Some(z) => put_whole(room, width, z),
     }
 }
 
 // Right-justified with spaces before it, and `-` only.
-pub fn write_number(room: &mut [u8], width: usize, signed: bool, number: Number) -> Written
+pub fn write_number(
+    room: &mut [u8],
+    width: usize,
+    signed: bool,
+    number: Option<i64>,
+) -> Result<usize, Refusal>
     ensures { WritesNumber room.old width signed number result room.new }
 {
     if !fits_number(signed, width, number) {
-        return Written::Refused(Refusal {
-            number: 21,
+        return Err(Refusal {
+            number: fault::MALFORMED,
             place: 0,
         });
     }
     if room.len() < width {
-        return Written::Refused(Refusal {
-            number: 18,
+        return Err(Refusal {
+            number: fault::ROOM,
             place: width,
         });
     }
     put_number(room, width, number);
-    Written::Bytes(width)
+    Ok(width)
 }
 
 // Whether a text can be written: of exactly the width, and of bytes 32 to 126.
@@ -390,35 +331,31 @@ pub fn fits_text(width: usize, text: &[u8]) -> bool
     if text.len() != width {
         return false;
     }
-    run(text, 0, width, 32, 126) == width
+    run(text, 32, 126) == width
 }
 
 fn put_text(room: &mut [u8], text: &[u8])
     requires { length text.now ≤ length room.old }
     ensures { room.new ≡ put_text room.old text.now }
 {
-    let mut i: usize = 0;
-    while i < text.len() {
-        room[i] = text[i];
-        i += 1;
-    }
+    room[..text.len()].copy_from_slice(text);
 }
 
-pub fn write_text(room: &mut [u8], width: usize, text: &[u8]) -> Written
+pub fn write_text(room: &mut [u8], width: usize, text: &[u8]) -> Result<usize, Refusal>
     ensures { WritesText room.old width text.now result room.new }
 {
     if !fits_text(width, text) {
-        return Written::Refused(Refusal {
-            number: 21,
+        return Err(Refusal {
+            number: fault::MALFORMED,
             place: 0,
         });
     }
     if room.len() < width {
-        return Written::Refused(Refusal {
-            number: 18,
+        return Err(Refusal {
+            number: fault::ROOM,
             place: width,
         });
     }
     put_text(room, text);
-    Written::Bytes(width)
+    Ok(width)
 }

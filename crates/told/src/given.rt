@@ -2,7 +2,7 @@
 ghost use Rattle.std.specs.Prelude.{◌≡◌};
 ghost use Rattle.told.specs.Given.{is_set, time_given, scaled_given, general_given};
 
-use meter::general::{General, Moment};
+use meter::general::Moment;
 use meter::scaled::Scaled;
 use meter::time::Time;
 
@@ -12,32 +12,20 @@ pub fn is_set(flag: u8) -> bool
     flag != 0
 }
 
-pub fn time(defined: u8, day: u16, milli: u32) -> Time
+pub fn time(defined: u8, day: u16, milli: u32) -> Option<Time>
     ensures { result ≡ time_given (is_set defined) day milli }
 {
-    if is_set(defined) {
-        Time::At { day, milli }
-    } else {
-        Time::Undefined
-    }
+    is_set(defined).then_some(Time { day, milli })
 }
 
-pub fn scaled(defined: u8, integer: i64, scale: i8) -> Scaled
+pub fn scaled(defined: u8, integer: i64, scale: i8) -> Option<Scaled>
     ensures { result ≡ scaled_given (is_set defined) integer scale }
 {
-    if is_set(defined) {
-        Scaled::Number { integer, scale }
-    } else {
-        Scaled::Undefined
-    }
+    is_set(defined).then_some(Scaled { integer, scale })
 }
 
-pub fn general(defined: u8, moment: Moment) -> General
+pub fn general(defined: u8, moment: Moment) -> Option<Moment>
     ensures { result ≡ general_given (is_set defined) moment }
 {
-    if is_set(defined) {
-        General::At(moment)
-    } else {
-        General::Undefined
-    }
+    is_set(defined).then_some(moment)
 }

@@ -12,7 +12,7 @@ use Rattle.uth.specs.Value.{value_of}
 use Rattle.uth.specs.Judge.{segment_at, judge_from, judge_of}
 use Rattle.uth.specs.Blocks.{blocks_in, blocks_from, blocks_of}
 use Rattle.uth.specs.Tiles.{Tiles}
-use Rattle.uth.specs.declared.value.Value.TheVariants as N
+use Rattle.std.specs.declared.option.Option.TheVariants.{Some, None}
 use Rattle.uth.proofs.Tiling.{read_tiles}
 
 -- four bytes
@@ -29,7 +29,7 @@ pub one_block : judge_of example ≡ answer 1
 unfolding be_at twos half_of is_grid is_some segment_at judge_from
 one_block = refl
 
-pub its_block : blocks_of example ≡ record { line = 1; column = 80; uth = N.There (of_bits binary32 0x41a0_0000); csr = N.Missing } ∷ []
+pub its_block : blocks_of example ≡ record { line = 1; column = 80; uth = Some (of_bits binary32 0x41a0_0000); csr = None } ∷ []
 unfolding be_at twos half_of blocks_in blocks_from value_of of_bits of_fields odd
 its_block = refl
 

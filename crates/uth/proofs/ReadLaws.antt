@@ -1,7 +1,7 @@
 -- The reader, by its cases: the file's refusal, a room that is too small, and what the rooms hold otherwise. Assumes nothing.
 use mathlib.Core.Path.{◌≡◌, sym, ap, ◌∙◌}
 use mathlib.Core.List.{List, ◌++◌, map}
-use Prim.Native.Nat.{ℕ, ◌+◌, ◌≤◌, ◌<◌}
+use Prim.Native.Nat.{ℕ, ◌≤◌, ◌<◌}
 use native.Mathlib.Omega.{arith}
 use borrow.Author.Tests.{le-leb, lt-leb}
 use lib.Ieee.{Float}
@@ -9,11 +9,13 @@ use lib.IntN.{nat_abs}
 use lib.ListN.{length, drop, length-map}
 use Rattle.calendar.specs.Said.{Said, answer, refusal}
 use Rattle.uth.specs.Layout.{segments, first_at}
-use Rattle.uth.specs.Judge.{judge_of, said_count}
+use Rattle.uth.specs.Judge.{judge_of}
 use Rattle.uth.specs.Blocks.{blocks_of, row_of, pair_of, read_of, left, ReadsUth, put_all}
 use Rattle.uth.specs.declared.blocks.Block.{Block}
-use Rattle.uth.specs.declared.judge.Count.{Count}
-use Rattle.uth.specs.declared.judge.Count.TheVariants as C
+use Rattle.std.specs.declared.result.Result.TheVariants.{Ok}
+use Rattle.std.specs.declared.result.Result.{Result}
+use Rattle.calendar.specs.declared.Refusal.{Refusal}
+use Rattle.calendar.specs.Said.{said}
 use Rattle.uth.proofs.BlockLaws.{count_is}
 use Rattle.uth.proofs.JudgeLaws.{opened}
 use Rattle.uth.proofs.PutLaws.{put_all_lem}
@@ -35,7 +37,7 @@ module _ (a : List ℕ) (r v : ℕ) where
 
 -- ---- and what the rooms hold
 module _ (a : List ℕ) (rows : List (List ℕ)) (pairs : List (List Float)) where
-  pub refuses : (r : Count) (x y : ℕ) → said_count r ≡ refusal x y → read_of a (length rows) (length pairs) ≡ refusal x y → ReadsUth a rows pairs r rows pairs
+  pub refuses : (r : Result ℕ Refusal) (x y : ℕ) → said r ≡ refusal x y → read_of a (length rows) (length pairs) ≡ refusal x y → ReadsUth a rows pairs r rows pairs
   refuses r x y e q =
       record {
         says = e ∙ sym q;
@@ -51,7 +53,7 @@ module _ (a : List ℕ) (rows : List (List ℕ)) (pairs : List (List Float)) whe
       let k : length (map f (blocks_of a)) ≡ n = length-map (blocks_of a) f ∙ blocks_count n e in
       put_all_lem room (map f (blocks_of a)) (omega arith) ∙ ap (λ (m : ℕ). map f (blocks_of a) ++ drop m room) k
 
-  pub reads : (n : ℕ) (rows' : List (List ℕ)) (pairs' : List (List Float)) → judge_of a ≡ answer n → n ≤ length rows → n ≤ length pairs → rows' ≡ put_all rows 0 (map row_of (blocks_of a)) → pairs' ≡ put_all pairs 0 (map pair_of (blocks_of a)) → ReadsUth a rows pairs (C.Blocks n) rows' pairs'
+  pub reads : (n : ℕ) (rows' : List (List ℕ)) (pairs' : List (List Float)) → judge_of a ≡ answer n → n ≤ length rows → n ≤ length pairs → rows' ≡ put_all rows 0 (map row_of (blocks_of a)) → pairs' ≡ put_all pairs 0 (map pair_of (blocks_of a)) → ReadsUth a rows pairs (Ok n) rows' pairs'
   reads n rows' pairs' e h l x y =
       let q = fits a (length rows) (length pairs) n e h l in
       record {

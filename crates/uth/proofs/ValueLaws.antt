@@ -9,7 +9,7 @@ use lib.Dec.{T, eqb, ltb, leb}
 use lib.Ieee.{Float, nan, inf, fin, binary32, odd, of_fields, of_bits, to_bits, is_nan, nan_bits}
 use lib.Ieee.Bits.{to_bits-of_bits, nan_bits_is}
 use Rattle.uth.specs.Value.{finite, value_of}
-use Rattle.uth.specs.declared.value.Value.TheVariants as N
+use Rattle.std.specs.declared.option.Option.TheVariants.{Some, None}
 
 odd_finite : (d : ℕ) (s : Bool) (q k l : ℕ) → finite (odd d s q k l) ≡ true
 unfolding odd
@@ -47,19 +47,19 @@ pub no_nan : (n : ℕ) → finite (of_bits binary32 n) ≡ true → T (not (nan_
 no_nan n e = subst (λ (b : Bool). T (not b)) (sym (nan_bits_is binary32 n)) (not_nan (of_bits binary32 n) e)
 
 -- A FINITE VALUE KEEPS ITS BITS
-pub keeps_bits : (n : ℕ) → n < 2 ^ 32 → (x : Float) → value_of n ≡ N.There x → to_bits binary32 x ≡ n
+pub keeps_bits : (n : ℕ) → n < 2 ^ 32 → (x : Float) → value_of n ≡ Some x → to_bits binary32 x ≡ n
 unfolding value_of
 keeps_bits n h x e = go (finite (of_bits binary32 n)) refl e
   where
-    go : (b : Bool) → finite (of_bits binary32 n) ≡ b → cond b (N.There (of_bits binary32 n)) N.Missing ≡ N.There x → to_bits binary32 x ≡ n
+    go : (b : Bool) → finite (of_bits binary32 n) ≡ b → cond b (Some (of_bits binary32 n)) None ≡ Some x → to_bits binary32 x ≡ n
     go true f e = let q : of_bits binary32 n ≡ x = cc in ap (to_bits binary32) (sym q) ∙ to_bits-of_bits binary32 n h (not_nan (of_bits binary32 n) f)
     go false f e = let z : ◌≡◌ {A = ℕ} 0 1 = cc in absurd (omega arith)
 
 -- MISSING exactly where it is not finite
-pub missing : (n : ℕ) → finite (of_bits binary32 n) ≡ false → value_of n ≡ N.Missing
+pub missing : (n : ℕ) → finite (of_bits binary32 n) ≡ false → value_of n ≡ None
 unfolding value_of
 missing n e = simp e
 
-pub there : (n : ℕ) → finite (of_bits binary32 n) ≡ true → value_of n ≡ N.There (of_bits binary32 n)
+pub there : (n : ℕ) → finite (of_bits binary32 n) ≡ true → value_of n ≡ Some (of_bits binary32 n)
 unfolding value_of
 there n e = simp e

@@ -3,16 +3,16 @@
 use Rattle.std.specs.Prelude.{ℕ, zero, suc, ◌+◌, ◌≡◌, cond, ◌&&◌, List, [], ◌∷◌, ◌++◌, map, leb, Float, nat_abs, length, drop, set}
 use Rattle.std.specs.Float.{binary32}
 use Rattle.std.specs.Float.Ieee.{of_bits}
-use Rattle.calendar.specs.Said.{Said, answer, refusal, refused}
+use Rattle.calendar.specs.Said.{Said, answer, refusal}
 use Rattle.uth.specs.Layout.{segments, first_at, line, column, blocks, body_at, end_at, uth_at, csr_at}
 use Rattle.uth.specs.Value.{value_at}
-use Rattle.uth.specs.Judge.{onward, judge_of, said_count}
-use Rattle.uth.specs.declared.value.Value.{Value}
-use Rattle.uth.specs.declared.value.Value.TheVariants as N
-use Rattle.uth.specs.declared.judge.Count.{Count}
+use Rattle.uth.specs.Judge.{onward, judge_of}
+use Rattle.std.specs.declared.option.Option.TheVariants.{Some, None}
+use Rattle.std.specs.declared.option.Option.{Option}
+use Rattle.std.specs.declared.result.Result.{Result}
+use Rattle.calendar.specs.declared.Refusal.{Refusal}
+use Rattle.calendar.specs.Said.{said}
 use Rattle.uth.specs.declared.blocks.Block.{Block}
-use Rattle.uth.specs.declared.blocks.BlockRead.{BlockRead}
-use Rattle.uth.specs.declared.blocks.BlockRead.TheVariants as B
 
 -- the block that starts at b, of a segment of this line and column
 abbrev pub block_of : List ℕ → ℕ → ℕ → ℕ → Block
@@ -33,13 +33,13 @@ abbrev pub blocks_of : List ℕ → List Block
 blocks_of a = blocks_from a (nat_abs (segments a)) first_at
 
 -- ---- a block in the two rooms: line, column, whether UTH and CSR are there; and UTH and CSR, where one is missing 0.0, which is all bits zero
-abbrev pub flag_of : Value → ℕ
-flag_of N.Missing = 0
-flag_of (N.There x) = 1
+abbrev pub flag_of : Option Float → ℕ
+flag_of None = 0
+flag_of (Some x) = 1
 
-abbrev pub number_of : Value → Float
-number_of N.Missing = of_bits binary32 0
-number_of (N.There x) = x
+abbrev pub number_of : Option Float → Float
+number_of None = of_bits binary32 0
+number_of (Some x) = x
 
 abbrev pub row_of : Block → List ℕ
 row_of b = b.line ∷ b.column ∷ flag_of b.uth ∷ flag_of b.csr ∷ []
@@ -57,8 +57,8 @@ left (answer n) new room = new ++ drop n room
 left (refusal n place) new room = room
 
 -- THE READER: what it answers, and both rooms at exit
-pub record ReadsUth (a : List ℕ) (rows : List (List ℕ)) (pairs : List (List Float)) (r : Count) (rows' : List (List ℕ)) (pairs' : List (List Float)) : Type 0 where
-  pub says : said_count r ≡ read_of a (length rows) (length pairs)
+pub record ReadsUth (a : List ℕ) (rows : List (List ℕ)) (pairs : List (List Float)) (r : Result ℕ Refusal) (rows' : List (List ℕ)) (pairs' : List (List Float)) : Type 0 where
+  pub says : said r ≡ read_of a (length rows) (length pairs)
   pub rowed : rows' ≡ left (read_of a (length rows) (length pairs)) (map row_of (blocks_of a)) rows
   pub paired : pairs' ≡ left (read_of a (length rows) (length pairs)) (map pair_of (blocks_of a)) pairs
 
@@ -72,11 +72,6 @@ item_of (x ∷ l) (suc k) n = item_of l k n
 -- THE QUERY: the file's own refusal, then 19
 abbrev pub block_read_of : List ℕ → ℕ → Said Block
 block_read_of a k = onward (judge_of a) (λ (n : ℕ). item_of (blocks_of a) k n)
-
--- what an answer says
-abbrev pub said_block : BlockRead → Said Block
-said_block (B.Block b) = answer b
-said_block (B.Refused r) = refused r
 
 -- ---- the code's own step: items stored one after the other from place i on
 unfoldable pub put_all : {A : Type 0} → List A → ℕ → List A → List A

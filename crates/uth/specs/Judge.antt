@@ -3,10 +3,8 @@
 -- faults taken in file order"). Assumes nothing.
 use Rattle.std.specs.Prelude.{ℕ, zero, suc, ◌+◌, Bool, cond, List, leb, pos, nat_abs, length}
 use Rattle.std.specs.Int.Signed.{lt_z}
-use Rattle.calendar.specs.Said.{Said, answer, refusal, refused}
+use Rattle.calendar.specs.Said.{Said, answer, refusal}
 use Rattle.uth.specs.Layout.{segments_at, segments, first_at, line, column, blocks, end_at, is_grid, is_some}
-use Rattle.uth.specs.declared.judge.Count.{Count}
-use Rattle.uth.specs.declared.judge.Count.TheVariants as C
 
 -- a fault: n, with its place, unless the test holds
 abbrev pub unless : {A : Type 0} → Bool → ℕ → ℕ → Said A → Said A
@@ -40,8 +38,3 @@ abbrev pub judge_of : List ℕ → Said ℕ
 judge_of a =
     unless (leb first_at (length a)) 30 (length a)
     (cond (lt_z (segments a) (pos 0)) (refusal 31 segments_at) (judge_from a (nat_abs (segments a)) first_at 0))
-
--- what an answer says
-abbrev pub said_count : Count → Said ℕ
-said_count (C.Blocks n) = answer n
-said_count (C.Refused r) = refused r

@@ -5,13 +5,6 @@ ghost use Rattle.std.specs.Float.{binary32};
 ghost use Rattle.std.specs.Float.Ieee.{of_bits};
 ghost use Rattle.uth.specs.Value.{finite, value_of, value_at};
 
-// A float, or none: what is not finite.
-#[derive(Clone, Copy)]
-pub enum Value {
-    Missing,
-    There(f32),
-}
-
 fn wide(b: u8) -> usize
     ensures { (result ≡ b) × (result < 256) }
 {
@@ -34,16 +27,17 @@ fn is_finite(bits: u32) -> bool
     bits % 0x8000_0000 < 0x7f80_0000
 }
 
-pub fn value_of(bits: u32) -> Value
+// A float, or none: what is not finite.
+pub fn value_of(bits: u32) -> Option<f32>
     ensures { result ≡ value_of bits }
 {
     if is_finite(bits) {
-        return Value::There(f32::from_bits(bits));
+        return Some(f32::from_bits(bits));
     }
-    Value::Missing
+    None
 }
 
-pub(crate) fn value_at(bytes: &[u8], at: usize) -> Value
+pub(crate) fn value_at(bytes: &[u8], at: usize) -> Option<f32>
     requires { at + 4 ≤ length bytes.now }
     ensures { result ≡ value_at bytes.now at }
 {

@@ -2,14 +2,15 @@
 use Rattle.std.specs.Prelude.{ℕ, List, Float}
 use Rattle.told.specs.Told.{Told, one4, refused}
 use Rattle.uth.specs.Blocks.{ReadsUth}
-use Rattle.uth.specs.declared.judge.Count.{Count}
-use Rattle.uth.specs.declared.judge.Count.TheVariants as C
+use Rattle.std.specs.declared.result.Result.TheVariants.{Ok, Err}
+use Rattle.std.specs.declared.result.Result.{Result}
+use Rattle.calendar.specs.declared.Refusal.{Refusal}
 
 -- how many blocks
-abbrev pub count_said : Count → List ℕ
-count_said (C.Blocks n) = one4 n
-count_said (C.Refused r) = refused 4 r
+abbrev pub count_said : Result ℕ Refusal → List ℕ
+count_said (Ok n) = one4 n
+count_said (Err r) = refused 4 r
 
 -- the file read into both rooms
 abbrev pub UthTold : List ℕ → List (List ℕ) → List (List Float) → List (List ℕ) → List (List Float) → List ℕ → Type 0
-UthTold a rows pairs rows' pairs' numbers = Told (λ (r : Count). ReadsUth a rows pairs r rows' pairs') count_said numbers
+UthTold a rows pairs rows' pairs' numbers = Told (λ (r : Result ℕ Refusal). ReadsUth a rows pairs r rows' pairs') count_said numbers

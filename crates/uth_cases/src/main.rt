@@ -5,13 +5,12 @@
 
 ghost use Rattle.std.specs.Prelude.{◌≤◌};
 
+use calendar::Refusal;
 use cases::input::{read, read_part, word};
 use cases::print::{float, number, refusal, say};
 use std::io;
 use std::io::{Read, Write};
-use uth::blocks::{Block, BlockRead};
-use uth::judge::Count;
-use uth::value::Value;
+use uth::blocks::Block;
 
 fn print_float<W: Write>(out: &mut W, x: f32) -> io::Result<()> {
     if x == x {
@@ -25,39 +24,33 @@ fn print_count<W: Write>(out: &mut W, n: u32) -> io::Result<()> {
     number(out, n as u64)
 }
 
-fn print_answer<W: Write>(out: &mut W, answer: Count) -> io::Result<()> {
+fn print_answer<W: Write>(out: &mut W, answer: Result<usize, Refusal>) -> io::Result<()> {
     match answer {
-        Count::Blocks(n) => {
+        Ok(n) => {
             say(out, b" blocks")?;
             number(out, n as u64)?;
         }
-        Count::Refused(r) => refusal(out, r)?,
+        Err(r) => refusal(out, r)?,
     }
     say(out, b"\n")
 }
 
 fn print_rows<W: Write>(out: &mut W, rows: &[[u32; 4]]) -> io::Result<()> {
-    let mut i: usize = 0;
-    while i < rows.len() {
-        let row = rows[i];
+    for row in rows {
         print_count(out, row[0])?;
         print_count(out, row[1])?;
         print_count(out, row[2])?;
         print_count(out, row[3])?;
         say(out, b"\n")?;
-        i += 1;
     }
     Ok(())
 }
 
 fn print_pairs<W: Write>(out: &mut W, pairs: &[[f32; 2]]) -> io::Result<()> {
-    let mut i: usize = 0;
-    while i < pairs.len() {
-        let pair = pairs[i];
+    for pair in pairs {
         print_float(out, pair[0])?;
         print_float(out, pair[1])?;
         say(out, b"\n")?;
-        i += 1;
     }
     Ok(())
 }
@@ -77,10 +70,7 @@ fn read_into<W: Write>(
 fn places(n: u64) -> usize
     ensures { result ≤ 32 }
 {
-    if n < 32 {
-        return n as usize;
-    }
-    32
+    n.min(32) as usize
 }
 
 // The next rooms.
@@ -102,43 +92,37 @@ fn run_rooms<R: Read, W: Write>(
     bytes: &[u8],
     rooms: u64,
 ) -> io::Result<()> {
-    let mut i: u64 = 0;
-    while i < rooms {
+    for _ in 0..rooms {
         run_room(input, out, bytes)?;
-        i += 1;
     }
     Ok(())
 }
 
-fn print_value<W: Write>(out: &mut W, v: Value) -> io::Result<()> {
+fn print_value<W: Write>(out: &mut W, v: Option<f32>) -> io::Result<()> {
     match v {
-        Value::Missing => say(out, b" missing"),
-        Value::There(x) => print_float(out, x),
+        None => say(out, b" missing"),
+        Some(x) => print_float(out, x),
     }
 }
 
 fn print_block<W: Write>(out: &mut W, b: Block) -> io::Result<()> {
     print_count(out, b.line)?;
     print_count(out, b.column)?;
-    let uth = b.uth;
-    let csr = b.csr;
-    print_value(out, uth)?;
-    print_value(out, csr)
+    print_value(out, b.uth)?;
+    print_value(out, b.csr)
 }
 
 fn ask<W: Write>(out: &mut W, bytes: &[u8], k: usize) -> io::Result<()> {
     match uth::blocks::block_at(bytes, k) {
-        BlockRead::Block(b) => print_block(out, b)?,
-        BlockRead::Refused(r) => refusal(out, r)?,
+        Ok(b) => print_block(out, b)?,
+        Err(r) => refusal(out, r)?,
     }
     say(out, b"\n")
 }
 
 fn ask_blocks<W: Write>(out: &mut W, bytes: &[u8], count: usize) -> io::Result<()> {
-    let mut k: usize = 0;
-    while k < count {
+    for k in 0..count {
         ask(out, bytes, k)?;
-        k += 1;
     }
     Ok(())
 }

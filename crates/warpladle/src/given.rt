@@ -3,15 +3,10 @@ ghost use Rattle.std.specs.Prelude.{◌≡◌};
 ghost use Rattle.told.specs.Given.{is_set};
 ghost use Rattle.warpladle.specs.Values.{number_given};
 
-use text::Number;
 use told::given::is_set;
 
-pub(crate) fn number(defined: u8, value: i64) -> Number
+pub(crate) fn number(defined: u8, value: i64) -> Option<i64>
     ensures { result ≡ number_given (is_set defined) value }
 {
-    if is_set(defined) {
-        Number::Whole(value)
-    } else {
-        Number::Undefined
-    }
+    is_set(defined).then_some(value)
 }

@@ -1,22 +1,23 @@
 // The judges, the record query and the listing.
 ghost use Rattle.std.specs.Prelude.{◌≡◌};
-ghost use Rattle.warpladle.specs.Judging.{arrival_said, ArrivalTold, finished_said, FinishedTold, record_said, RecordTold};
-ghost use Rattle.warpladle.specs.Judging.{extent_said, ExtentTold, VerdictTold, Level0Told, listed_said, ListingTold};
+ghost use Rattle.std.specs.declared.result.Result.TheVariants.{Ok};
+ghost use Rattle.warpladle.specs.Judging.{arrival_said, ArrivalTold, FinishedTold, record_said, RecordTold};
+ghost use Rattle.warpladle.specs.Judging.{extent_said, ExtentTold, VerdictTold, Level0Told, ListingTold};
 
-use crate::put::put_header;
-use finish::{Finished, rows as list_rows, verdict};
-use judge::arrival::{Arrival, Extent, judge_arrival, judge_extent};
+use crate::put::header_numbers;
+use finish::{rows as list_rows, verdict};
+use judge::arrival::{Arrival, judge_arrival, judge_extent};
 use level0::judge_level0;
-use listing::{Listed, list_product};
-use query::{RecordAnswer, record_at};
-use told::put::{put_one, put4, refuse4, refuse16};
+use listing::list_product;
+use query::{Record, record_at};
+use told::put::{Answer, count, told};
 
-fn put_arrival(answer: &mut [u64; 4], judged: Arrival)
-    ensures { answer.new ≡ arrival_said judged }
+fn arrival_numbers(judged: Arrival) -> [u64; 4]
+    ensures { result ≡ arrival_said judged }
 {
     match judged {
-        Arrival::Waiting { count, end } => put4(answer, 0, end as u64, count as u64, 0),
-        Arrival::Refused(r) => refuse4(answer, r),
+        Arrival::Waiting { count, end } => [0, end as u64, count as u64, 0],
+        Arrival::Refused(r) => <[u64; 4] as Answer>::refusal(r),
     }
 }
 
@@ -25,16 +26,15 @@ fn put_arrival(answer: &mut [u64; 4], judged: Arrival)
 pub extern "C" fn wl_arrival(bytes: &[u8], answer: &mut [u64; 4])
     ensures { ArrivalTold bytes.now answer.new }
 {
-    put_arrival(answer, judge_arrival(bytes));
+    *answer = arrival_numbers(judge_arrival(bytes));
 }
 
-fn put_extent(answer: &mut [u64; 4], extent: Extent)
-    ensures { answer.new ≡ extent_said extent }
+fn extent_numbers(count: Option<usize>) -> [u64; 4]
+    ensures { result ≡ extent_said (Ok count) }
 {
-    match extent {
-        Extent::Part => put4(answer, 0, 0, 0, 0),
-        Extent::Entire { count } => put4(answer, 0, 0, 1, count as u64),
-        Extent::Refused(r) => refuse4(answer, r),
+    match count {
+        None => [0, 0, 0, 0],
+        Some(count) => [0, 0, 1, count as u64],
     }
 }
 
@@ -43,16 +43,7 @@ fn put_extent(answer: &mut [u64; 4], extent: Extent)
 pub extern "C" fn wl_extent(bytes: &[u8], answer: &mut [u64; 4])
     ensures { ExtentTold bytes.now answer.new }
 {
-    put_extent(answer, judge_extent(bytes));
-}
-
-fn put_finished(answer: &mut [u64; 4], judged: Finished)
-    ensures { answer.new ≡ finished_said judged }
-{
-    match judged {
-        Finished::Accepted { count } => put_one(answer, count as u64),
-        Finished::Refused(r) => refuse4(answer, r),
-    }
+    *answer = told(judge_extent(bytes), extent_numbers);
 }
 
 // The verdict of a finished product: 0, 0, the count, 0.
@@ -60,7 +51,7 @@ fn put_finished(answer: &mut [u64; 4], judged: Finished)
 pub extern "C" fn wl_verdict(bytes: &[u8], answer: &mut [u64; 4])
     ensures { VerdictTold bytes.now answer.new }
 {
-    put_finished(answer, verdict(bytes));
+    *answer = told(verdict(bytes), count);
 }
 
 // The same, and a row for each record goes into the list.
@@ -68,7 +59,7 @@ pub extern "C" fn wl_verdict(bytes: &[u8], answer: &mut [u64; 4])
 pub extern "C" fn wl_rows(bytes: &[u8], rows: &mut [[u32; 7]], answer: &mut [u64; 4])
     ensures { FinishedTold bytes.now rows.old rows.new answer.new }
 {
-    put_finished(answer, list_rows(bytes, rows));
+    *answer = told(list_rows(bytes, rows), count);
 }
 
 // The same by the Level 0 profile.
@@ -76,16 +67,13 @@ pub extern "C" fn wl_rows(bytes: &[u8], rows: &mut [[u32; 7]], answer: &mut [u64
 pub extern "C" fn wl_level0(bytes: &[u8], rows: &mut [[u32; 7]], answer: &mut [u64; 4])
     ensures { Level0Told bytes.now rows.old rows.new answer.new }
 {
-    put_finished(answer, judge_level0(bytes, rows));
+    *answer = told(judge_level0(bytes, rows), count);
 }
 
-fn put_record(answer: &mut [u64; 16], found: RecordAnswer)
-    ensures { answer.new ≡ record_said found }
+fn record_numbers(found: Record) -> [u64; 16]
+    ensures { result ≡ record_said (Ok found) }
 {
-    match found {
-        RecordAnswer::Record { start, header } => put_header(answer, start, header),
-        RecordAnswer::Refused(r) => refuse16(answer, r),
-    }
+    header_numbers(found.start, found.header)
 }
 
 // Record k: 0, 0, its start, class, group, subclass, version, size, then each of its two times as a flag, day and millisecond, 0, 0.
@@ -93,16 +81,7 @@ fn put_record(answer: &mut [u64; 16], found: RecordAnswer)
 pub extern "C" fn wl_record(bytes: &[u8], k: usize, answer: &mut [u64; 16])
     ensures { RecordTold bytes.now k answer.new }
 {
-    put_record(answer, record_at(bytes, k));
-}
-
-fn put_listed(answer: &mut [u64; 4], listed: Listed)
-    ensures { answer.new ≡ listed_said listed }
-{
-    match listed {
-        Listed::Bytes(n) => put_one(answer, n as u64),
-        Listed::Refused(r) => refuse4(answer, r),
-    }
+    *answer = told(record_at(bytes, k), record_numbers);
 }
 
 // The listing of a product at the start of the room: 0, 0, the bytes written, 0.
@@ -110,5 +89,5 @@ fn put_listed(answer: &mut [u64; 4], listed: Listed)
 pub extern "C" fn wl_listing(bytes: &[u8], text: &mut [u8], answer: &mut [u64; 4])
     ensures { ListingTold bytes.now text.old text.new answer.new }
 {
-    put_listed(answer, list_product(bytes, text));
+    *answer = told(list_product(bytes, text), count);
 }

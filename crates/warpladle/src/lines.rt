@@ -1,30 +1,26 @@
 // The header's reader and writer, and the writers of the main header's lines.
 ghost use Rattle.std.specs.Prelude.{◌≡◌};
 ghost use Rattle.told.specs.Given.{is_set, time_given, moment_given, general_given};
-ghost use Rattle.warpladle.specs.Values.{number_given, header_given};
-ghost use Rattle.warpladle.specs.Lines.{header_said, HeaderTold, WriteHeaderTold, TextLineTold, NumberLineTold, TimeLineTold};
+ghost use Rattle.warpladle.specs.Values.{number_given, header_given, header16};
+ghost use Rattle.warpladle.specs.Lines.{HeaderTold, WriteHeaderTold, TextLineTold, NumberLineTold, TimeLineTold};
 
-use crate::put::put_header;
+use crate::put::header_numbers;
 use calendar::Date;
 use meter::general::Moment;
-use record::header::{Header, HeaderRead};
-use told::put::{put_written, refuse16};
-
-fn put_header_read(answer: &mut [u64; 16], at: usize, found: HeaderRead)
-    ensures { answer.new ≡ header_said at found }
-{
-    match found {
-        HeaderRead::Header(h) => put_header(answer, at, h),
-        HeaderRead::Refused(r) => refuse16(answer, r),
-    }
-}
+use record::header::Header;
+use told::put::{told, written};
 
 // The header in the 20 bytes from `at` on: the numbers of a record query, with `at` for the start.
 #[unsafe(no_mangle)]
 pub extern "C" fn wl_read_header(bytes: &[u8], at: usize, answer: &mut [u64; 16])
     ensures { HeaderTold bytes.now at answer.new }
 {
-    put_header_read(answer, at, record::header::read_header(bytes, at));
+    *answer = told(
+        record::header::read_header(bytes, at),
+        |header| -> [u64; 16]
+            ensures { result ≡ header16 at header }
+        { header_numbers(at, header) },
+    );
 }
 
 // A header into the first 20 bytes of the room: 0, 0, the bytes written, 0.
@@ -61,7 +57,7 @@ pub extern "C" fn wl_write_header(
         start,
         stop,
     };
-    put_written(answer, record::header::write_header(room, header));
+    *answer = written(record::header::write_header(room, header));
 }
 
 // The line of field k with a text at the start of the room: 0, 0, the bytes written, 0.
@@ -69,7 +65,7 @@ pub extern "C" fn wl_write_header(
 pub extern "C" fn wl_write_text_line(room: &mut [u8], k: usize, text: &[u8], answer: &mut [u64; 4])
     ensures { TextLineTold room.old k text.now room.new answer.new }
 {
-    put_written(answer, mphr::lines::write_text_line(room, k, text));
+    *answer = written(mphr::lines::write_text_line(room, k, text));
 }
 
 // The same of a number.
@@ -84,7 +80,7 @@ pub extern "C" fn wl_write_number_line(
     ensures { NumberLineTold room.old k (number_given (is_set defined) value) room.new answer.new }
 {
     let x = crate::given::number(defined, value);
-    put_written(answer, mphr::lines::write_number_line(room, k, x));
+    *answer = written(mphr::lines::write_number_line(room, k, x));
 }
 
 // The same of a time.
@@ -115,5 +111,5 @@ pub extern "C" fn wl_write_time_line(
         milli,
     };
     let t = told::given::general(defined, moment);
-    put_written(answer, mphr::lines::write_time_line(room, k, t));
+    *answer = written(mphr::lines::write_time_line(room, k, t));
 }

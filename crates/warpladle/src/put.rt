@@ -4,26 +4,23 @@ ghost use Rattle.warpladle.specs.Values.{number4, header16};
 
 use meter::integer::bits_of;
 use record::header::Header;
-use text::Number;
-use told::put::{put4, time_words};
+use told::put::time_words;
 
-pub(crate) fn put_number(answer: &mut [u64; 4], x: Number)
-    ensures { answer.new ≡ number4 x }
+pub(crate) fn value_numbers(x: Option<i64>) -> [u64; 4]
+    ensures { result ≡ number4 x }
 {
     match x {
-        Number::Undefined => put4(answer, 0, 0, 0, 0),
-        Number::Whole(z) => put4(answer, 0, 0, 1, bits_of(z)),
+        None => [0; 4],
+        Some(z) => [0, 0, 1, bits_of(z)],
     }
 }
 
-pub(crate) fn put_header(answer: &mut [u64; 16], start: usize, header: Header)
-    ensures { answer.new ≡ header16 start header }
+pub(crate) fn header_numbers(start: usize, header: Header) -> [u64; 16]
+    ensures { result ≡ header16 start header }
 {
-    let start_time = header.start;
-    let stop_time = header.stop;
-    let t = time_words(start_time);
-    let u = time_words(stop_time);
-    *answer = [
+    let t = time_words(header.start);
+    let u = time_words(header.stop);
+    [
         0,
         0,
         start as u64,
@@ -40,5 +37,5 @@ pub(crate) fn put_header(answer: &mut [u64; 16], start: usize, header: Header)
         u.milli,
         0,
         0,
-    ];
+    ]
 }

@@ -5,7 +5,7 @@
 mod pending;
 mod under_way;
 
-ghost use Rattle.std.specs.Prelude.{◌≡◌, true, ◌+◌, ◌-◌, ◌≤◌, ◌<◌, length, get_or};
+ghost use Rattle.std.specs.Prelude.{◌≡◌, true, ◌+◌, ◌-◌, ◌≤◌, ◌<◌, length, get_or, IfSome};
 ghost use Rattle.record.specs.Header.{is_class};
 ghost use Rattle.record.specs.Follow.{Ruled};
 ghost use Rattle.judge.specs.Turning.{refused_at, FewerIs};
@@ -16,12 +16,12 @@ ghost use Rattle.watch.specs.Turning.{EndIs, WalkIs, AdvanceIs, IdleIs};
 
 use crate::pending::{Settled, settle};
 use crate::under_way::{fill, head_lines, is_aim, keep};
-use calendar::Refusal;
+use calendar::{Refusal, fault};
 use judge::arrival::Arrival;
-use judge::parts::{Run, header_rank, is_fewer, is_part, kind_in, lesser, run_of, word_in};
-use mphr::faults::Reached;
+use judge::parts::{Run, header_rank, is_fewer, is_part, kind_in, run_of, word_in};
 
-// Where the watch is: all of it but its arrays. It goes by value.
+// Where the watch is: all of it but its arrays. It goes by value. `number` is 0 for no refusal, and `prev` a class, as numbers: the C interface
+// (`wl_watch`), in which any byte may stand.
 #[repr(C)]
 #[derive(Clone, Copy)]
 pub struct Mark {
@@ -70,10 +70,7 @@ pub struct Gone {
 #[derive(Clone, Copy)]
 pub enum Turned {
     Wait,
-    Refuse {
-        number: u8,
-        place: usize,
-    },
+    Refuse(Refusal),
     Pass {
         to: usize,
         class: u8,
@@ -91,20 +88,11 @@ pub enum Turned {
     },
 }
 
-fn refusal(number: u8, place: usize) -> Arrival
-    ensures { result ≡ refused_at number place }
-{
-    Arrival::Refused(Refusal { number, place })
-}
-
 // A 65th pointer record.
 fn is_one_more(class: u8, pointers: usize) -> bool
     ensures { OneMoreIs class pointers result }
 {
-    if class != 3 {
-        return false;
-    }
-    64 <= pointers
+    class == 3 && 64 <= pointers
 }
 
 // The record that starts at `at`, of whose header `have` bytes are held, in an arrival of `len` bytes.
@@ -131,25 +119,25 @@ fn turn<'a>(
         return Turned::Wait;
     }
     let h = header_rank(under, follow, totals, tally, d - at, prev);
-    if h == 6 {
-        return Turned::Refuse {
-            number: 6,
+    if h == fault::BYTES_LEFT {
+        return Turned::Refuse(Refusal {
+            number: fault::BYTES_LEFT,
             place: at + 20,
-        };
+        });
     }
     if h < 12 {
-        return Turned::Refuse {
+        return Turned::Refuse(Refusal {
             number: h,
             place: at,
-        };
+        });
     }
     let class = under[0];
     let pointers = tally[3];
     if is_one_more(class, pointers) {
-        return Turned::Refuse {
-            number: 24,
+        return Turned::Refuse(Refusal {
+            number: fault::TOO_MANY_POINTERS,
             place: at,
-        };
+        });
     }
     let to = at + word_in(under, 4);
     match settle(
@@ -163,39 +151,39 @@ fn turn<'a>(
         d,
         kind_in(under, 0),
     ) {
-        Settled::Inside(q) => Turned::Refuse {
-            number: 13,
+        Settled::Inside(q) => Turned::Refuse(Refusal {
+            number: fault::POINTS_INSIDE,
             place: q,
-        },
-        Settled::Other(q) => Turned::Refuse {
-            number: 14,
+        }),
+        Settled::Other(q) => Turned::Refuse(Refusal {
+            number: fault::POINTS_AT_OTHER,
             place: q,
-        },
+        }),
         Settled::Clear(due) => {
             if len < to {
                 return Turned::Rest { to };
             }
             if is_part(to, d) {
-                return Turned::Refuse {
-                    number: 6,
+                return Turned::Refuse(Refusal {
+                    number: fault::BYTES_LEFT,
                     place: to,
-                };
+                });
             }
             if class != 3 {
                 return Turned::Pass { to, class, due };
             }
             if !is_aim(under, to, d) {
-                return Turned::Refuse {
-                    number: 12,
+                return Turned::Refuse(Refusal {
+                    number: fault::TARGET,
                     place: at,
-                };
+                });
             }
             let target = word_in(under, 23);
             Turned::Point {
                 to,
                 target,
                 kind: kind_in(under, 20),
-                due: lesser(due, target),
+                due: due.min(target),
             }
         }
     }
@@ -226,7 +214,7 @@ fn run_in(
     requires { (to ≤ d) × (d ≤ 2147483647) × Ruled follow.now }
     ensures { RunInIs part.now base class size to due d most result }
 {
-    if lesser(to, due) < base {
+    if to.min(due) < base {
         return Run { count: 0, end: to };
     }
     let run = run_of(
@@ -245,40 +233,34 @@ fn run_in(
     }
 }
 
-// So many more records of a class, within its total.
-fn with_more(n: usize, more: usize, total: usize) -> usize
-    requires { n + more ≤ total }
-    ensures { result ≡ n + more }
-{
-    n + more
-}
-
 // The watch refuses, from here on.
-fn refuse(mark: Mark, number: u8, place: usize) -> Gone
-    ensures { (result.mark ≡ refusing mark number place) × (result.answer ≡ refused_at number place) }
+fn refuse(mark: Mark, r: Refusal) -> Gone
+    ensures { (result.mark ≡ refusing mark r.number r.place) × (result.answer ≡ refused_at r.number r.place) }
 {
-    let mut v = mark;
-    v.number = number;
-    v.place = place;
     Gone {
-        mark: v,
-        answer: refusal(number, place),
+        mark: Mark {
+            number: r.number,
+            place: r.place,
+            ..mark
+        },
+        answer: Arrival::Refused(r),
     }
 }
 
-// The record under way is not whole, of whose header `have` bytes are held; what comes before byte `next` is not looked at.
-fn wait(mark: Mark, have: usize, got: usize, next: usize) -> Gone
-    ensures { (result.mark ≡ waited mark have got next) × (result.answer ≡ Waiting mark.count mark.at) }
+// The record under way is not whole, of whose header `held` bytes are held; what comes before byte `next` is not looked at.
+fn wait(mark: Mark, held: usize, got: usize, next: usize) -> Gone
+    ensures { (result.mark ≡ waited mark held got next) × (result.answer ≡ Waiting mark.count mark.at) }
 {
-    let mut v = mark;
-    v.have = have;
-    v.got = got;
-    v.next = next;
     Gone {
-        mark: v,
+        mark: Mark {
+            have: held,
+            got,
+            next,
+            ..mark
+        },
         answer: Arrival::Waiting {
-            count: v.count,
-            end: v.at,
+            count: mark.count,
+            end: mark.at,
         },
     }
 }
@@ -287,26 +269,40 @@ fn wait(mark: Mark, have: usize, got: usize, next: usize) -> Gone
 fn end<'a>(mark: Mark, totals: &'a [usize; 9], tally: &'a [usize; 9], len: usize) -> Gone
     ensures { EndIs mark totals.now tally.now len result }
 {
-    let mut v = mark;
-    let d = v.d;
+    let place = mark.d;
     if is_fewer(totals, tally) {
-        return refuse(v, 15, d);
+        return refuse(
+            mark,
+            Refusal {
+                number: fault::TOO_FEW,
+                place,
+            },
+        );
     }
-    if d < len {
-        return refuse(v, 16, d);
+    if place < len {
+        return refuse(
+            mark,
+            Refusal {
+                number: fault::BEYOND,
+                place,
+            },
+        );
     }
-    v.got = len;
-    v.next = 0;
     Gone {
-        mark: v,
+        mark: Mark {
+            got: len,
+            next: 0,
+            ..mark
+        },
         answer: Arrival::Waiting {
-            count: v.count,
-            end: d,
+            count: mark.count,
+            end: place,
         },
     }
 }
 
-// Up to where the bytes of a record that ends at `to` are not looked at, once its header of 20 bytes is held: a pointer's last 7 are.
+// Up to where the bytes of a record that ends at `to` are not looked at, once its header of 20 bytes is held: a pointer's last 7 are. 0, and
+// no `None`, stands for none, as in the mark's `next` (the C interface: `wl_watch`).
 fn until(class: u8, to: usize) -> usize
     ensures { (class ≡ 3 → result ≡ 0) × ((class ≡ 3 → ⊥) → result ≡ to) }
 {
@@ -350,17 +346,15 @@ fn walk(
             Turned::Wait => {
                 return wait(v, have, len, 0);
             }
-            Turned::Refuse { number, place } => {
-                return refuse(v, number, place);
+            Turned::Refuse(r) => {
+                return refuse(v, r);
             }
             Turned::Pass { to, class, due } => {
                 let k = class as usize;
-                let n = tally[k];
-                let total = totals[k];
-                let most = total - n - 1;
+                let most = totals[k] - tally[k] - 1;
                 let run = run_in(part, &follow, base, class, to - at, to, due, d, most);
                 let passed = 1 + run.count;
-                tally[k] = with_more(n, passed, total);
+                tally[k] += passed;
                 v.count += passed;
                 v.at = run.end;
                 v.prev = class;
@@ -426,19 +420,17 @@ fn start(
     let base = v.got;
     let got = keep(head, base, part);
     // A fault of the main header is shown where a line ends: until then there is nothing to judge, and then from that line on.
-    let next = v.next;
-    if got < next {
+    if got < v.next {
         v.got = got;
         return early(v);
     }
-    let from = v.line;
-    match head_lines(head, got, from) {
-        Reached::Refused(r) => {
-            return refuse(v, r.number, r.place);
+    match head_lines(head, got, v.line) {
+        Err(r) => {
+            return refuse(v, r);
         }
-        Reached::Line { line, end } => {
-            v.line = line;
-            v.next = end;
+        Ok(reached) => {
+            v.line = reached.line;
+            v.next = reached.end;
         }
     }
     v.got = got;
@@ -450,12 +442,16 @@ fn start(
         return early(v);
     }
     if is_part(3307, d) {
-        return refuse(v, 6, 3307);
+        return refuse(
+            v,
+            Refusal {
+                number: fault::BYTES_LEFT,
+                place: 3307,
+            },
+        );
     }
-    let all = judge::parts::totals_of(head);
-    *totals = all;
-    let one = [0usize, 1, 0, 0, 0, 0, 0, 0, 0];
-    *tally = one;
+    *totals = judge::parts::totals_of(head);
+    *tally = [0, 1, 0, 0, 0, 0, 0, 0, 0];
     v.have = 0;
     v.at = 3307;
     v.count = 1;
@@ -477,38 +473,26 @@ fn is_sane(
 ) -> bool
     ensures { SaneIs got have at count d pointers prev result }
 {
-    if 2147483647 < d {
-        return false;
-    }
-    if d < got {
-        return false;
-    }
-    if d < at {
-        return false;
-    }
-    if at < count {
-        return false;
-    }
-    if 27 < have {
-        return false;
-    }
-    if 64 < pointers {
-        return false;
-    }
-    record::header::is_class(prev)
+    d <= 2147483647
+        && got <= d
+        && at <= d
+        && count <= at
+        && have <= 27
+        && pointers <= 64
+        && record::header::is_class(prev)
 }
 
-// How many bytes were fed after n more, if none of them is looked at before byte `next`; else 0.
-fn rested(got: usize, n: usize, next: usize) -> usize
-    ensures { (result ≡ 0 → ⊥) → (result ≡ got + n) × (got + n < next) }
+// How many bytes were fed after n more, if none of them is looked at before byte `next`.
+fn rested(got: usize, n: usize, next: usize) -> Option<usize>
+    ensures { IfSome result (λ fed. (fed ≡ got + n) × (got + n < next)) }
 {
     if next <= got {
-        return 0;
+        return None;
     }
     if next - got <= n {
-        return 0;
+        return None;
     }
-    got + n
+    Some(got + n)
 }
 
 fn advance(
@@ -533,15 +517,12 @@ fn advance(
             mark, totals, tally, starts, targets, kinds, head, under, part,
         );
     }
-    let fed = rested(got, part.len(), mark.next);
-    if fed != 0 {
-        let mut v = mark;
-        v.got = fed;
+    if let Some(fed) = rested(got, part.len(), mark.next) {
         return Gone {
-            mark: v,
+            mark: Mark { got: fed, ..mark },
             answer: Arrival::Waiting {
-                count: v.count,
-                end: v.at,
+                count: mark.count,
+                end: mark.at,
             },
         };
     }
@@ -601,11 +582,13 @@ pub fn step_in(
         (laid result.mark totals.new tally.new starts.new targets.new kinds.new
         head.new under.new) result.answer }
 {
-    let number = mark.number;
-    if number != 0 {
+    if mark.number != 0 {
         return Gone {
             mark,
-            answer: refusal(number, mark.place),
+            answer: Arrival::Refused(Refusal {
+                number: mark.number,
+                place: mark.place,
+            }),
         };
     }
     if part.len() == 0 {
@@ -623,38 +606,23 @@ pub fn step_in(
 pub fn step(w: Watch, part: &[u8]) -> Fed
     ensures { FedIs w part.now result.watch result.answer }
 {
-    let mark = w.mark;
-    let mut totals = w.totals;
-    let mut tally = w.tally;
-    let mut starts = w.starts;
-    let mut targets = w.targets;
-    let mut kinds = w.kinds;
-    let mut head = w.head;
-    let mut under = w.under;
-    let r = step_in(
-        mark,
-        &mut totals,
-        &mut tally,
-        &mut starts,
-        &mut targets,
-        &mut kinds,
-        &mut head,
-        &mut under,
+    let mut watch = w;
+    let gone = step_in(
+        watch.mark,
+        &mut watch.totals,
+        &mut watch.tally,
+        &mut watch.starts,
+        &mut watch.targets,
+        &mut watch.kinds,
+        &mut watch.head,
+        &mut watch.under,
         part,
     );
-    let next = r.mark;
-    let answer = r.answer;
-    let watch = Watch {
-        mark: next,
-        totals,
-        tally,
-        starts,
-        targets,
-        kinds,
-        head,
-        under,
-    };
-    Fed { watch, answer }
+    watch.mark = gone.mark;
+    Fed {
+        watch,
+        answer: gone.answer,
+    }
 }
 
 pub fn new() -> Watch

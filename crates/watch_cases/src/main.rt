@@ -34,18 +34,15 @@ fn fed<R: Read, W: Write>(
     }
     let n = read_part(input, bytes, word(&head, 0, 4) as usize)?;
     let f = watch::step(w, &bytes[..n]);
-    let answer = f.answer;
-    print_answer(out, answer)?;
+    print_answer(out, f.answer)?;
     Ok(f.watch)
 }
 
 fn run_case<R: Read, W: Write>(input: &mut R, out: &mut W, parts: u64) -> io::Result<()> {
     let mut w = watch::new();
     let mut bytes = [0u8; 65536];
-    let mut i: u64 = 0;
-    while i < parts {
+    for _ in 0..parts {
         w = fed(input, out, w, &mut bytes)?;
-        i += 1;
     }
     Ok(())
 }

@@ -20,7 +20,7 @@ use Rattle.text.specs.Field.{is_x, is_number, integer_of, number_at, is_value}
 use Rattle.text.specs.Writing.{put_text, put_number}
 use Rattle.text.specs.declared.Kind.{Kind}
 use Rattle.text.specs.declared.Kind.TheVariants.{Text, Unsigned, Count, Signed, Time, LongTime}
-use Rattle.text.specs.declared.Number.TheVariants as N
+use Rattle.std.specs.declared.option.Option.TheVariants.{Some, None}
 use Rattle.text.proofs.Meaning.{number_means, x_means}
 use Rattle.mphr.specs.Layout.{width_of, kind_of, line_start}
 use Rattle.mphr.specs.Table.{valued, declared}
@@ -88,7 +88,7 @@ module _ (a : List ℕ) (i w : ℕ) (r : List ℕ) (room : w ≤ length r) where
   number_again : (signed : Bool) → is_number signed a i w || is_x a i w ≡ true → Plain a i w → (j : ℕ) → j < w → get_or (put_number w r (number_at a i w)) j 0 ≡ get_or a (i + j) 0
   number_again signed e p j h = go (is_x a i w) refl
     where
-      go : (b : Bool) → is_x a i w ≡ b → get_or (put_number w r (cond b N.Undefined (N.Whole (integer_of a i w)))) j 0 ≡ get_or a (i + j) 0
+      go : (b : Bool) → is_x a i w ≡ b → get_or (put_number w r (cond b None (Some (integer_of a i w)))) j 0 ≡ get_or a (i + j) 0
       go true x = let u = (x_means a i w x).1 j h in x_are r w room j h ∙ omega arith
       go false x = whole_again signed a i w (number_means signed a i w (left_true (is_number signed a i w) (is_x a i w) e x)) p r room j h
 

@@ -26,9 +26,8 @@ use Rattle.demands.proofs.Accepted.{meets_complete, covers}
 use Rattle.demands.proofs.Counting.{ends_whole}
 use Rattle.query.specs.Query.{RecordFound, NoRecord, not_yet, RecordIs, sort_of, number_in, time_in}
 use Rattle.query.specs.Query as Q
-use Rattle.query.specs.declared.RecordAnswer.TheVariants.{Record, Refused}
-use Rattle.query.specs.declared.NumberAnswer.TheVariants as B
-use Rattle.query.specs.declared.TimeAnswer.TheVariants as T
+use Rattle.std.specs.declared.result.Result.TheVariants.{Ok, Err}
+use Rattle.query.specs.Found.{record_found}
 use Rattle.query.proofs.QueryDetermined.{one_start, one_count}
 use Rattle.query.proofs.QuerySays.{started}
 use Rattle.meter.specs.Integer.{Bytes}
@@ -52,10 +51,10 @@ module _ (a : List ℕ) (m : Meets a) where
       let c = complete_covered (meets_complete m) in
       record { end = c.1.last.at; all = rw (covers m c.1).0 at (ends_whole (meets_complete m) c.1) }
 
-  pub record_there : (k : ℕ) → k < suc (length m.list) → RecordIs a k (Record (start a k) (header_at a (start a k)))
+  pub record_there : (k : ℕ) → k < suc (length m.list) → RecordIs a k (record_found (start a k) (header_at a (start a k)))
   record_there k h = record { count = suc (length m.list); end = counts.end; waiting = counts.all; below = h; start = started counts.all k h; header = refl }
 
-  record_not : RecordIs a (suc (length m.list)) (Refused (refusing 19 (suc (length m.list))))
+  record_not : RecordIs a (suc (length m.list)) (Err (refusing 19 (suc (length m.list))))
   record_not = not_yet counts.all (omega arith)
 
 counted : (a : List ℕ) (m : Meets a) (k c : ℕ) → NoRecord a k 19 c → suc (length m.list) ≡ c
@@ -94,11 +93,11 @@ together e f g = rw (e, f, g)
 module _ (a b : List ℕ) (m : Meets a) (n : Meets b) (s : AnswersAs a b) where
   line_same : (d : Kind) (k : ℕ) → k < 72 → kind_of k ≡ d → value_at d a (line_start k + 32) (width_of k) ≡ value_at d b (line_start k + 32) (width_of k)
   line_same Text k h e = ap text (s.texts k (line_start k + 32) (width_of k) (record { allowed = field_allowed a m k Text h (ap sort_of e); start_is = refl; width_is = refl }))
-  line_same Unsigned k h e = ap number (s.numbers k (B.Number (number_in a k)) (field_allowed a m k Unsigned h (ap sort_of e), refl)).1
-  line_same Count k h e = ap number (s.numbers k (B.Number (number_in a k)) (field_allowed a m k Unsigned h (ap sort_of e), refl)).1
-  line_same Signed k h e = ap number (s.numbers k (B.Number (number_in a k)) (field_allowed a m k Unsigned h (ap sort_of e), refl)).1
-  line_same Time k h e = ap time (s.times k false (T.Time (time_in a k false)) (time_allowed a m k false h (ap sort_of e), refl)).1
-  line_same LongTime k h e = ap time (s.times k true (T.Time (time_in a k true)) (time_allowed a m k true h (ap sort_of e), refl)).1
+  line_same Unsigned k h e = ap number (s.numbers k (Ok (number_in a k)) (field_allowed a m k Unsigned h (ap sort_of e), refl)).1
+  line_same Count k h e = ap number (s.numbers k (Ok (number_in a k)) (field_allowed a m k Unsigned h (ap sort_of e), refl)).1
+  line_same Signed k h e = ap number (s.numbers k (Ok (number_in a k)) (field_allowed a m k Unsigned h (ap sort_of e), refl)).1
+  line_same Time k h e = ap time (s.times k false (Ok (time_in a k false)) (time_allowed a m k false h (ap sort_of e), refl)).1
+  line_same LongTime k h e = ap time (s.times k true (Ok (time_in a k true)) (time_allowed a m k true h (ap sort_of e), refl)).1
 
   lines_same : lines_at a 0 72 ≡ lines_at b 0 72
   unfolding line_at
@@ -110,10 +109,10 @@ module _ (a b : List ℕ) (m : Meets a) (n : Meets b) (s : AnswersAs a b) where
 
   -- ---- THE SAME RECORDS
   many : suc (length m.list) ≡ suc (length n.list)
-  many = sym (counted b n (suc (length m.list)) (suc (length m.list)) (s.records (suc (length m.list)) (Refused (refusing 19 (suc (length m.list)))) (record_not a m)))
+  many = sym (counted b n (suc (length m.list)) (suc (length m.list)) (s.records (suc (length m.list)) (Err (refusing 19 (suc (length m.list)))) (record_not a m)))
 
   found : (k : ℕ) → k < suc (length m.list) → RecordFound b k (start a k) (header_at a (start a k))
-  found k h = s.records k (Record (start a k) (header_at a (start a k))) (record_there a m k h)
+  found k h = s.records k (record_found (start a k) (header_at a (start a k))) (record_there a m k h)
 
   start_same : (k : ℕ) → k < suc (length m.list) → start a k ≡ start b k
   start_same k h = one_start (found k h).start (started (counts b n).all k (omega (arith, many)))
@@ -130,7 +129,7 @@ module _ (a b : List ℕ) (m : Meets a) (n : Meets b) (s : AnswersAs a b) where
     place : get_or m.list k 0 ≡ start a (suc k)
     place = nth_start a m (suc k) (omega arith)
 
-    there : RecordIs a (suc k) (Record (get_or m.list k 0) (header_at a (get_or m.list k 0)))
+    there : RecordIs a (suc k) (record_found (get_or m.list k 0) (header_at a (get_or m.list k 0)))
     there = rw place (record_there a m (suc k) (omega arith))
 
     header_same : header_at a (get_or m.list k 0) ≡ header_at b (get_or m.list k 0)

@@ -12,7 +12,18 @@ use lib.Dec.{eqb}
 use lib.ListN.{length, get_or, take, drop, replicate, length-replicate}
 use Rattle.calendar.specs.Said.{answer}
 use Rattle.meter.specs.General.{digits_of, general_at}
-use Rattle.meter.specs.declared.general.General.{General}
+use Rattle.std.specs.declared.option.Option.TheVariants.{Some, None}
+use Rattle.std.specs.declared.result.Result.TheVariants.{Ok}
+use Rattle.std.specs.declared.option.Option.{Option}
+use Rattle.std.specs.declared.result.Result.{Result}
+use Rattle.calendar.specs.declared.Refusal.{Refusal}
+use Rattle.std.specs.Prelude.{ℤ}
+use Rattle.meter.specs.declared.general.Moment.{Moment}
+use Rattle.query.specs.declared.GroundPoint.{GroundPoint}
+use Rattle.query.specs.declared.Record.{Record}
+use Rattle.query.specs.declared.Part.{Part}
+use Rattle.query.specs.Found.{part_found}
+use Rattle.query.specs.Found.{record_found}
 use Rattle.record.specs.Header.{header_at}
 use Rattle.record.specs.Pointer.{is_pointer, pointer_at, pointer_read_at}
 use Rattle.record.specs.declared.header.Header.{Header}
@@ -20,8 +31,6 @@ use Rattle.record.specs.declared.pointer.Pointer.{Pointer}
 use Rattle.text.specs.Field.{number_at}
 use Rattle.text.specs.declared.Kind.{Kind}
 use Rattle.text.specs.declared.Kind.TheVariants.{Text, Unsigned, Count, Signed, Time, LongTime}
-use Rattle.text.specs.declared.Number.{Number}
-use Rattle.text.specs.declared.Number.TheVariants as N
 use Rattle.mphr.specs.Layout.{bytes_of, width_of, kind_of, line_start}
 use Rattle.mphr.specs.Lines.{is_long}
 use Rattle.mphr.specs.Table.{declared}
@@ -33,8 +42,6 @@ use Rattle.judge.specs.Extent.{Covered}
 use Rattle.finish.specs.Rows as Rows
 use Rattle.finish.specs.Rows.{rows_after, rows_of}
 use Rattle.finish.specs.Finish.{put, starts, VerdictIs, FinishedIs, Accepts}
-use Rattle.finish.specs.declared.Finished.{Finished}
-use Rattle.finish.specs.declared.Finished.TheVariants.{Accepted}
 use Rattle.demands.specs.Product.{class, size, IsRecord, Records, none, more, Meets}
 use Rattle.demands.specs.Demands.{start}
 use Rattle.demands.proofs.Accept.{complete_covered}
@@ -42,23 +49,12 @@ use Rattle.demands.proofs.Accepted.{meets_complete, covers, meets_accepted, uniq
 use Rattle.demands.proofs.Prefix.{unique_arrival}
 use Rattle.demands.proofs.Counting.{main_size, ends_whole, indexed}
 use Rattle.query.specs.Query.{sort_of, times_of, Allowed, value_start, TextIs, number_in, NumberIs, TimeIs, latitude_field, point_of, PointIs, PointFound, RecordIs}
-use Rattle.query.specs.declared.RecordAnswer.{RecordAnswer}
-use Rattle.query.specs.declared.RecordAnswer.TheVariants.{Record}
-use Rattle.query.specs.declared.FieldAnswer.{FieldAnswer}
-use Rattle.query.specs.declared.FieldAnswer.TheVariants.{Part}
-use Rattle.query.specs.declared.NumberAnswer.{NumberAnswer}
-use Rattle.query.specs.declared.NumberAnswer.TheVariants as B
-use Rattle.query.specs.declared.TimeAnswer.{TimeAnswer}
-use Rattle.query.specs.declared.TimeAnswer.TheVariants as T
-use Rattle.query.specs.declared.PointAnswer.{PointAnswer}
 use Rattle.query.proofs.QueryDetermined.{unique_text_field, unique_number_field, unique_time_of, unique_ground_point}
 use Rattle.query.proofs.QuerySays.{query_says}
 use Rattle.query.proofs.LineAnswers.{come, main_clean}
 use Rattle.listing.specs.Decimal.{column}
 use Rattle.listing.specs.Listing.{line, lines, ListedIs, Lists}
 use Rattle.listing.specs.Listing as Li
-use Rattle.listing.specs.declared.Listed.{Listed}
-use Rattle.listing.specs.declared.Listed.TheVariants as L
 use Rattle.listing.proofs.Determined.{unique_list}
 use Rattle.meter.specs.Integer.{Bytes}
 use Rattle.whole.specs.Values.{Value, text, number, time, Rec, plain, pointer, Values, line_in, print, RightRec, RightPointer, Right}
@@ -81,13 +77,13 @@ text_sort LongTime a i w t e = let z : ◌≡◌ {A = ℕ} 0 1 = cc in absurd (o
 pub same_text : (s t : List ℕ) → text s ≡ text t → s ≡ t
 same_text s t e = cc
 
-pub same_number : (x y : Number) → number x ≡ number y → x ≡ y
+pub same_number : (x y : Option ℤ) → number x ≡ number y → x ≡ y
 same_number x y e = cc
 
-pub same_time : (x y : General) → time x ≡ time y → x ≡ y
+pub same_time : (x y : Option Moment) → time x ≡ time y → x ≡ y
 same_time x y e = cc
 
-number_sort : (d : Kind) (a : List ℕ) (i w : ℕ) (x : Number) → value_at d a i w ≡ number x → (sort_of d ≡ sort_of Unsigned) × (number_at a i w ≡ x)
+number_sort : (d : Kind) (a : List ℕ) (i w : ℕ) (x : Option ℤ) → value_at d a i w ≡ number x → (sort_of d ≡ sort_of Unsigned) × (number_at a i w ≡ x)
 number_sort Text a i w x e = let z : ◌≡◌ {A = ℕ} 0 1 = cc in absurd (omega arith)
 number_sort Unsigned a i w x e = (refl, same_number (number_at a i w) x e)
 number_sort Count a i w x e = (refl, same_number (number_at a i w) x e)
@@ -95,7 +91,7 @@ number_sort Signed a i w x e = (refl, same_number (number_at a i w) x e)
 number_sort Time a i w x e = let z : ◌≡◌ {A = ℕ} 0 1 = cc in absurd (omega arith)
 number_sort LongTime a i w x e = let z : ◌≡◌ {A = ℕ} 0 1 = cc in absurd (omega arith)
 
-time_sort : (d : Kind) (a : List ℕ) (i w : ℕ) (g : General) → value_at d a i w ≡ time g → (sort_of d ≡ times_of (is_long d)) × (general_at (digits_of (is_long d)) a i ≡ g)
+time_sort : (d : Kind) (a : List ℕ) (i w : ℕ) (g : Option Moment) → value_at d a i w ≡ time g → (sort_of d ≡ times_of (is_long d)) × (general_at (digits_of (is_long d)) a i ≡ g)
 unfolding is_long
 time_sort Text a i w g e = let z : ◌≡◌ {A = ℕ} 0 1 = cc in absurd (omega arith)
 time_sort Unsigned a i w g e = let z : ◌≡◌ {A = ℕ} 0 1 = cc in absurd (omega arith)
@@ -176,37 +172,37 @@ module _ (a : List ℕ) (m : Meets a) where
   unfolding line_at
   line_is k h x e = sym (line_in_lem a m.list k h) ∙ e
 
-  texts : (k : ℕ) (t : List ℕ) → k < 72 → line_in (parse_at a m.list) k ≡ text t → (r : FieldAnswer) → TextIs a k r → (r ≡ Part (value_start k) (width_of k)) × (take (width_of k) (drop (value_start k) a) ≡ t)
+  texts : (k : ℕ) (t : List ℕ) → k < 72 → line_in (parse_at a m.list) k ≡ text t → (r : Result Part Refusal) → TextIs a k r → (r ≡ part_found (value_start k) (width_of k)) × (take (width_of k) (drop (value_start k) a) ≡ t)
   texts k t h e r f =
       let s = text_sort (kind_of k) a (line_start k + 32) (width_of k) t (line_is k h (text t) e) in
-      (unique_text_field a k r (Part (value_start k) (width_of k)) f (record { allowed = field_allowed k Text h s.0; start_is = refl; width_is = refl }), s.1)
+      (unique_text_field a k r (part_found (value_start k) (width_of k)) f (record { allowed = field_allowed k Text h s.0; start_is = refl; width_is = refl }), s.1)
 
-  numbers : (k : ℕ) (x : Number) → k < 72 → line_in (parse_at a m.list) k ≡ number x → (r : NumberAnswer) → NumberIs a k r → r ≡ B.Number x
+  numbers : (k : ℕ) (x : Option ℤ) → k < 72 → line_in (parse_at a m.list) k ≡ number x → (r : Result (Option ℤ) Refusal) → NumberIs a k r → r ≡ Ok x
   numbers k x h e r f =
       let s = number_sort (kind_of k) a (line_start k + 32) (width_of k) x (line_is k h (number x) e) in
-      unique_number_field a k r (B.Number x) f (field_allowed k Unsigned h s.0, sym s.1)
+      unique_number_field a k r (Ok x) f (field_allowed k Unsigned h s.0, sym s.1)
 
-  times : (k : ℕ) (g : General) → k < 72 → line_in (parse_at a m.list) k ≡ time g → (r : TimeAnswer) → TimeIs a k (is_long (kind_of k)) r → r ≡ T.Time g
+  times : (k : ℕ) (g : Option Moment) → k < 72 → line_in (parse_at a m.list) k ≡ time g → (r : Result (Option Moment) Refusal) → TimeIs a k (is_long (kind_of k)) r → r ≡ Ok g
   times k g h e r f =
       let s = time_sort (kind_of k) a (line_start k + 32) (width_of k) g (line_is k h (time g) e) in
-      unique_time_of a k (is_long (kind_of k)) r (T.Time g) f (time_allowed k (is_long (kind_of k)) h s.0, sym s.1)
+      unique_time_of a k (is_long (kind_of k)) r (Ok g) f (time_allowed k (is_long (kind_of k)) h s.0, sym s.1)
 
   latitude_small : (end : Bool) → latitude_field end + 1 < 72
   latitude_small true = omega arith
   latitude_small false = omega arith
 
-  point_found : (end : Bool) (x y : Number) → PointFound a end (point_of x y) → PointIs a end (point_of x y)
-  point_found end N.Undefined y f = f
-  point_found end (N.Whole x) N.Undefined f = f
-  point_found end (N.Whole x) (N.Whole y) f = f
+  point_found : (end : Bool) (x y : Option ℤ) → PointFound a end (point_of x y) → PointIs a end (point_of x y)
+  point_found end None y f = f
+  point_found end (Some x) None f = f
+  point_found end (Some x) (Some y) f = f
 
-  points : (end : Bool) (x y : Number) → line_in (parse_at a m.list) (latitude_field end) ≡ number x → line_in (parse_at a m.list) (latitude_field end + 1) ≡ number y → (r : PointAnswer) → PointIs a end r → r ≡ point_of x y
+  points : (end : Bool) (x y : Option ℤ) → line_in (parse_at a m.list) (latitude_field end) ≡ number x → line_in (parse_at a m.list) (latitude_field end + 1) ≡ number y → (r : Result (Option GroundPoint) Refusal) → PointIs a end r → r ≡ point_of x y
   points end x y e f r q =
       let k = latitude_field end in
       let h = latitude_small end in
       let s = number_sort (kind_of k) a (line_start k + 32) (width_of k) x (line_is k (omega arith) (number x) e) in
       let t = number_sort (kind_of (k + 1)) a (line_start (k + 1) + 32) (width_of (k + 1)) y (line_is (k + 1) h (number y) f) in
-      let p : point_of x y ≡ point_of (number_in a k) (number_in a (k + 1)) = ap (λ (z : Number). point_of z y) (sym s.1) ∙ ap (point_of (number_in a k)) (sym t.1) in
+      let p : point_of x y ≡ point_of (number_in a k) (number_in a (k + 1)) = ap (λ (z : Option ℤ). point_of z y) (sym s.1) ∙ ap (point_of (number_in a k)) (sym t.1) in
       unique_ground_point a end r (point_of x y) q (point_found end x y (record { allowed = field_allowed k Unsigned (omega arith) s.0; point = p }))
 
   -- the records
@@ -219,8 +215,8 @@ module _ (a : List ℕ) (m : Meets a) where
   said_heads : heads_of (parse_at a m.list) ≡ heads_at a (0 ∷ m.list)
   said_heads = ap (λ (l : List Header). header_at a 0 ∷ l) (heads_are a m.list)
 
-  said_count : length (heads_of (parse_at a m.list)) ≡ suc (length m.list)
-  said_count = ap length said_heads ∙ heads_long a (0 ∷ m.list)
+  said : length (heads_of (parse_at a m.list)) ≡ suc (length m.list)
+  said = ap length said_heads ∙ heads_long a (0 ∷ m.list)
 
   pub said_starts : starts_from 0 (heads_of (parse_at a m.list)) ≡ 0 ∷ m.list
   said_starts = ap (starts_from 0) said_heads ∙ chain_starts chain
@@ -229,50 +225,50 @@ module _ (a : List ℕ) (m : Meets a) where
   unfolding start
   nth_start k h = let z : 0 + k ≡ k = omega arith in rw z at (chain_nth chain 0 refl k h)
 
-  records : (k : ℕ) → k < length (heads_of (parse_at a m.list)) → (r : RecordAnswer) → RecordIs a k r → r ≡ Record (start_of (parse_at a m.list) k) (get_or (heads_of (parse_at a m.list)) k (header_at a 0))
+  records : (k : ℕ) → k < length (heads_of (parse_at a m.list)) → (r : Result Record Refusal) → RecordIs a k r → r ≡ record_found (start_of (parse_at a m.list) k) (get_or (heads_of (parse_at a m.list)) k (header_at a 0))
   records k h r q =
       let c = complete_covered (meets_complete m) in
       let w = covers m c.1 in
       let blank : List (List ℕ) = replicate c.0 [] in
       let n : length blank ≡ c.0 = length-replicate {A = List ℕ} c.0 [] in
       let f : Accepts a blank c.0 (put 0 (rows_of a (0 ∷ starts c.1.way)) blank) = record { complete = meets_complete m; filled = record { covered = c.1; fits = omega arith; index = refl } } in
-      let l : k < suc (length m.list) = omega (arith, said_count) in
+      let l : k < suc (length m.list) = omega (arith, said) in
       let u : k < c.0 = omega (arith, w.0) in
       let s = indexed (meets_complete m) f.filled k u in
       let t : start a k ≡ start_of (parse_at a m.list) k = sym (nth_start k l) ∙ ap (λ (x : List ℕ). get_or x k 0) (sym said_starts) in
       let g : header_at a (start a k) ≡ get_or (heads_of (parse_at a m.list)) k (header_at a 0) = ap (header_at a) (sym (nth_start k l)) ∙ sym (heads_nth a (0 ∷ m.list) (header_at a 0) k l) ∙ ap (λ (x : List Header). get_or x k (header_at a 0)) (sym said_heads) in
       query_says f k u r q
-      ∙ ap (λ (i : ℕ). Record i (header_at a i)) s
-      ∙ ap (λ (x : Header). Record (start a k) x) g
-      ∙ ap (λ (i : ℕ). Record i (get_or (heads_of (parse_at a m.list)) k (header_at a 0))) t
+      ∙ ap (λ (i : ℕ). record_found i (header_at a i)) s
+      ∙ ap (λ (x : Header). record_found (start a k) x) g
+      ∙ ap (λ (i : ℕ). record_found i (get_or (heads_of (parse_at a m.list)) k (header_at a 0))) t
 
-  verdict : (r : Finished) → VerdictIs a r → r ≡ Accepted (length (heads_of (parse_at a m.list)))
+  verdict : (r : Result ℕ Refusal) → VerdictIs a r → r ≡ Ok (length (heads_of (parse_at a m.list)))
   verdict r f =
       let c = complete_covered (meets_complete m) in
-      unique_verdict a r (Accepted c.0) f (meets_complete m, c.1) ∙ ap Accepted ((covers m c.1).0 ∙ sym said_count)
+      unique_verdict a r (Ok c.0) f (meets_complete m, c.1) ∙ ap Ok ((covers m c.1).0 ∙ sym said)
 
   arrival : (r : Arrival) → Judged a r → r ≡ Waiting (length (heads_of (parse_at a m.list))) (length a)
   arrival r f =
       let c = complete_covered (meets_complete m) in
       unique_arrival a r (Waiting c.0 c.1.last.at) f (ends_whole (meets_complete m) c.1)
-      ∙ ap (λ (n : ℕ). Waiting n c.1.last.at) ((covers m c.1).0 ∙ sym said_count)
+      ∙ ap (λ (n : ℕ). Waiting n c.1.last.at) ((covers m c.1).0 ∙ sym said)
       ∙ ap (Waiting (length (heads_of (parse_at a m.list)))) (c.1.ends ∙ sym m.come)
 
-  rows : (rows rows' : List (List ℕ)) → length (heads_of (parse_at a m.list)) ≤ length rows → (r : Finished) → FinishedIs a rows r rows' → (r ≡ Accepted (length (heads_of (parse_at a m.list)))) × (rows' ≡ put 0 (rows_from [] 0 (heads_of (parse_at a m.list))) rows)
+  rows : (rows rows' : List (List ℕ)) → length (heads_of (parse_at a m.list)) ≤ length rows → (r : Result ℕ Refusal) → FinishedIs a rows r rows' → (r ≡ Ok (length (heads_of (parse_at a m.list)))) × (rows' ≡ put 0 (rows_from [] 0 (heads_of (parse_at a m.list))) rows)
   rows old new h r f =
-      let x = meets_accepted a old new m (omega (arith, said_count)) r f in
+      let x = meets_accepted a old new m (omega (arith, said)) r f in
       let e : rows_from [] 0 (heads_of (parse_at a m.list)) ≡ rows_of a (0 ∷ m.list) = ap (rows_from [] 0) said_heads ∙ chain_rows [] chain in
-      (x.0 ∙ ap Accepted (sym said_count), x.1 ∙ ap (λ (l : List (List ℕ)). put 0 l old) (sym e))
+      (x.0 ∙ ap Ok (sym said), x.1 ∙ ap (λ (l : List (List ℕ)). put 0 l old) (sym e))
 
   listing_is : {c : ℕ} (w : Covered a c) → Li.listing w ≡ listed (parse_at a m.list)
   listing_is {c} w =
       let e = covers m w in
       let l : lines_from 0 (heads_of (parse_at a m.list)) ≡ lines a (0 ∷ m.list) = ap (lines_from 0) said_heads ∙ chain_lines chain in
-      ap (λ (n : ℕ). (bytes_of "records " ++ column n 10) ++ lines a (0 ∷ starts w.way)) (e.0 ∙ sym said_count)
+      ap (λ (n : ℕ). (bytes_of "records " ++ column n 10) ++ lines a (0 ∷ starts w.way)) (e.0 ∙ sym said)
       ∙ ap (λ (s : List ℕ). (bytes_of "records " ++ column (length (heads_of (parse_at a m.list))) 10) ++ lines a (0 ∷ s)) e.1
       ∙ ap (λ (s : List ℕ). (bytes_of "records " ++ column (length (heads_of (parse_at a m.list))) 10) ++ s) (sym l)
 
-  listing : (room exit : List ℕ) → length a ≤ 65536 → length (listed (parse_at a m.list)) ≤ length room → (r : Listed) → ListedIs a room r exit → (r ≡ L.Bytes (length (listed (parse_at a m.list)))) × (exit ≡ listed (parse_at a m.list) ++ drop (length (listed (parse_at a m.list))) room)
+  listing : (room exit : List ℕ) → length a ≤ 65536 → length (listed (parse_at a m.list)) ≤ length room → (r : Result ℕ Refusal) → ListedIs a room r exit → (r ≡ Ok (length (listed (parse_at a m.list)))) × (exit ≡ listed (parse_at a m.list) ++ drop (length (listed (parse_at a m.list))) room)
   listing room exit h l r f =
       let c = complete_covered (meets_complete m) in
       let e = listing_is c.1 in
@@ -284,7 +280,7 @@ module _ (a : List ℕ) (m : Meets a) where
         covered = c.1;
         wrote = record { bytes = ap length (sym e); fits = l; text_is = ap (λ (s : List ℕ). s ++ drop (length t) room) (sym e) };
       } in
-      unique_list a room r (L.Bytes (length t)) exit (t ++ drop (length t) room) f g
+      unique_list a room r (Ok (length t)) exit (t ++ drop (length t) room) f g
 
 -- ---- the pointers
 pointer_parts : (a : List ℕ) (i : ℕ) (p : Pointer) → rec_at a i ≡ pointer p → pointer_at a i ≡ p

@@ -13,7 +13,9 @@ use lib.IntN.{ℤ}
 use lib.ListN.{length, get_or, take, drop, length-append, length-drop, take-append-drop, get_or-append}
 use lib.Seq.{length-take-le, get_or-take, get_or-drop, get_or-append-add, ext_get_or}
 use Rattle.meter.specs.General.{digits_of, is_general, general_at, put_general, fits_general}
-use Rattle.meter.specs.declared.general.General.{General}
+use Rattle.std.specs.declared.option.Option.TheVariants.{Some, None}
+use Rattle.std.specs.declared.option.Option.{Option}
+use Rattle.meter.specs.declared.general.Moment.{Moment}
 use Rattle.meter.proofs.GeneralRuns.{and_true}
 use Rattle.meter.proofs.GeneralWrite.{width_low, x_are, general_back}
 use Rattle.meter.proofs.ReadsBack.{reads_answer}
@@ -25,8 +27,6 @@ use Rattle.record.specs.declared.pointer.Pointer.{Pointer}
 use Rattle.record.proofs.FieldLaws.{put_held, held_again}
 use Rattle.record.proofs.FieldLaws as F
 use Rattle.text.specs.Writing.{spelled, fits_number, put_text, put_number, put_whole}
-use Rattle.text.specs.declared.Number.{Number}
-use Rattle.text.specs.declared.Number.TheVariants as N
 use Rattle.text.proofs.Back.{whole_in, whole_value}
 use Rattle.text.proofs.Laws.{text_wide, fits_some}
 use Rattle.mphr.specs.Layout.{width_of, kind_of, line_start}
@@ -56,11 +56,11 @@ whole_any (suc n) z r s o f h l j u =
     let e = whole_value true n r z h f in
     rw (i, e) at (whole_again true (put_whole r (suc n) z) 0 (suc n) (whole_in true n r z h f) (whole_plain true n r z h f) s l j u)
 
-number_any : (w : ℕ) (x : Number) (r s : List ℕ) → fits_number true w x ≡ true → w ≤ length r → w ≤ length s → (j : ℕ) → j < w → get_or (put_number w s x) j 0 ≡ get_or (put_number w r x) j 0
-number_any w N.Undefined r s f h l j u = x_are s w l j u ∙ sym (x_are r w h j u)
-number_any w (N.Whole z) r s f h l j u = whole_any w z r s (fits_some true w (N.Whole z) f) (and_true (ltb 0 w && leb w 17) _ f).1 h l j u
+number_any : (w : ℕ) (x : Option ℤ) (r s : List ℕ) → fits_number true w x ≡ true → w ≤ length r → w ≤ length s → (j : ℕ) → j < w → get_or (put_number w s x) j 0 ≡ get_or (put_number w r x) j 0
+number_any w None r s f h l j u = x_are s w l j u ∙ sym (x_are r w h j u)
+number_any w (Some z) r s f h l j u = whole_any w z r s (fits_some true w (Some z) f) (and_true (ltb 0 w && leb w 17) _ f).1 h l j u
 
-time_any : (long : Bool) (g : General) (r s : List ℕ) → fits_general long g ≡ true → digits_of long < length r → digits_of long < length s → (j : ℕ) → j ≤ digits_of long → get_or (put_general (digits_of long) s g) j 0 ≡ get_or (put_general (digits_of long) r g) j 0
+time_any : (long : Bool) (g : Option Moment) (r s : List ℕ) → fits_general long g ≡ true → digits_of long < length r → digits_of long < length s → (j : ℕ) → j ≤ digits_of long → get_or (put_general (digits_of long) s g) j 0 ≡ get_or (put_general (digits_of long) r g) j 0
 time_any long g r s f h l j u =
     let n = digits_of long in
     let b = put_general n r g in
@@ -68,7 +68,7 @@ time_any long g r s f h l j u =
     let o : 0 + n ≡ n = omega arith in
     let i : 0 + j ≡ j = omega arith in
     let z : get_or b (0 + n) 0 ≡ 90 = rw o (general_zed n r g (width_low long) h) in
-    ap (λ (x : General). get_or (put_general n s x) j 0) (sym k.2) ∙ general_again long b 0 s l z k.1 j u ∙ ap (λ (q : ℕ). get_or b q 0) i
+    ap (λ (x : Option Moment). get_or (put_general n s x) j 0) (sym k.2) ∙ general_again long b 0 s l z k.1 j u ∙ ap (λ (q : ℕ). get_or b q 0) i
 
 pub value_any : (k : ℕ) (x : Value) (r s : List ℕ) → k < 72 → fits k x ≡ true → width_of k ≤ length r → width_of k ≤ length s → (j : ℕ) → j < width_of k → get_or (put k x s) j 0 ≡ get_or (put k x r) j 0
 value_any k (text t) r s o f h l j u =

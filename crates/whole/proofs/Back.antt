@@ -10,7 +10,9 @@ use borrow.Author.Tests.{eq-eqb, ne_eqb}
 use lib.ListN.{length, take, drop, length-append, length-drop, get_or-append}
 use lib.Seq.{length-take-le, get_or-take, get_or-drop, ext_get_or}
 use Rattle.meter.specs.General.{digits_of, is_general, general_at}
-use Rattle.meter.specs.declared.general.General.{General}
+use Rattle.std.specs.declared.option.Option.{Option}
+use Rattle.std.specs.Prelude.{ℤ}
+use Rattle.meter.specs.declared.general.Moment.{Moment}
 use Rattle.meter.proofs.ReadsBack.{reads_answer}
 use Rattle.record.specs.Header.{header_at, put_header}
 use Rattle.record.specs.Pointer.{pointer_at, put_pointer}
@@ -19,7 +21,6 @@ use Rattle.record.specs.declared.pointer.Pointer.{Pointer}
 use Rattle.text.specs.Field.{is_numeric, number_at}
 use Rattle.text.specs.declared.Kind.{Kind}
 use Rattle.text.specs.declared.Kind.TheVariants.{Text, Unsigned, Count, Signed, Time, LongTime}
-use Rattle.text.specs.declared.Number.{Number}
 use Rattle.mphr.specs.Layout.{width_of, kind_of, line_start}
 use Rattle.mphr.specs.Lines.{number_fits, time_fits, is_long, put_line}
 use Rattle.mphr.proofs.LayoutLaws.{start_next, start_mono, start_72}
@@ -78,7 +79,7 @@ module _ (a : List ℕ) where
       ∙ ap (λ (y : List Rec). x ∷ y) (recs_back (i + length (rec_of x)) l (λ y n. f y (pop n)) (at_right (rec_of x) (joined l) t) (omega arith))
 
 -- ---- A LINE THAT STANDS
-number_kind : (d : Kind) (w : ℕ) (x : Number) (a : List ℕ) (i : ℕ) → number_fits d w x ≡ true → number_at a i w ≡ x → value_at d a i w ≡ number x
+number_kind : (d : Kind) (w : ℕ) (x : Option ℤ) (a : List ℕ) (i : ℕ) → number_fits d w x ≡ true → number_at a i w ≡ x → value_at d a i w ≡ number x
 unfolding number_fits
 number_kind Text w x a i f e = absurd (true≢false (sym f))
 number_kind Unsigned w x a i f e = ap number e
@@ -87,7 +88,7 @@ number_kind Signed w x a i f e = ap number e
 number_kind Time w x a i f e = absurd (true≢false (sym f))
 number_kind LongTime w x a i f e = absurd (true≢false (sym f))
 
-time_kind : (d : Kind) (w : ℕ) (g : General) (a : List ℕ) (i : ℕ) → time_fits d g ≡ true → general_at (digits_of (is_long d)) a i ≡ g → value_at d a i w ≡ time g
+time_kind : (d : Kind) (w : ℕ) (g : Option Moment) (a : List ℕ) (i : ℕ) → time_fits d g ≡ true → general_at (digits_of (is_long d)) a i ≡ g → value_at d a i w ≡ time g
 unfolding time_fits is_long
 time_kind Text w g a i f e = absurd (true≢false (sym f))
 time_kind Unsigned w g a i f e = absurd (true≢false (sym f))

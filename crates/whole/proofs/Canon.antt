@@ -8,15 +8,15 @@ use lib.Dec.{ltb, leb}
 use lib.IntN.{ℤ}
 use lib.ListN.{length, get_or, get_or-append}
 use Rattle.meter.specs.General.{digits_of}
-use Rattle.meter.specs.declared.general.General.{General}
+use Rattle.std.specs.declared.option.Option.TheVariants.{Some, None}
+use Rattle.std.specs.declared.option.Option.{Option}
+use Rattle.meter.specs.declared.general.Moment.{Moment}
 use Rattle.meter.proofs.GeneralRuns.{and_true, run_is, outside}
 use Rattle.meter.proofs.GeneralWrite.{x_are}
 use Rattle.text.specs.Field.{spaces}
 use Rattle.text.specs.Writing.{spelled, fits_number, put_number}
 use Rattle.text.specs.declared.Kind.{Kind}
 use Rattle.text.specs.declared.Kind.TheVariants.{Text, Unsigned, Count, Signed, Time, LongTime}
-use Rattle.text.specs.declared.Number.{Number}
-use Rattle.text.specs.declared.Number.TheVariants as N
 use Rattle.text.proofs.Meaning.{means_number}
 use Rattle.text.proofs.Laws.{some_left, fits_some}
 use Rattle.text.proofs.Back.{whole_in}
@@ -40,14 +40,14 @@ none_plain b i w h f =
     let e : lead b i w ≡ 120 = rw s (f 0 h) in
     record { plus = λ q. omega arith; minus = λ q c. omega arith; naught = λ q. absurd (omega arith) }
 
-whole_spelled : (w : ℕ) (z : ℤ) (r b : List ℕ) (i : ℕ) → 0 < w → spelled true w z ≡ true → w ≤ length r → Alike b (put_number w r (N.Whole z)) i 0 w → Plain b i w
+whole_spelled : (w : ℕ) (z : ℤ) (r b : List ℕ) (i : ℕ) → 0 < w → spelled true w z ≡ true → w ≤ length r → Alike b (put_number w r (Some z)) i 0 w → Plain b i w
 whole_spelled zero z r b i h s l e = absurd (omega arith)
 whole_spelled (suc n) z r b i h s l e =
     plain_alike e h (some_left true _ 0 (suc n) (means_number true _ 0 (suc n) (whole_in true n r z l s))) (minus_next true n r z l s) (whole_plain true n r z l s)
 
-number_spelled : (w : ℕ) (x : Number) (r b : List ℕ) (i : ℕ) → fits_number true w x ≡ true → w ≤ length r → Alike b (put_number w r x) i 0 w → Plain b i w
-number_spelled w N.Undefined r b i f l e = none_plain b i w (fits_some true w N.Undefined f) (λ j h. let z : 0 + j ≡ j = omega arith in e.byte j h ∙ rw z (x_are r w l j h))
-number_spelled w (N.Whole z) r b i f l e = whole_spelled w z r b i (fits_some true w (N.Whole z) f) (and_true (ltb 0 w && leb w 17) _ f).1 l e
+number_spelled : (w : ℕ) (x : Option ℤ) (r b : List ℕ) (i : ℕ) → fits_number true w x ≡ true → w ≤ length r → Alike b (put_number w r x) i 0 w → Plain b i w
+number_spelled w None r b i f l e = none_plain b i w (fits_some true w None f) (λ j h. let z : 0 + j ≡ j = omega arith in e.byte j h ∙ rw z (x_are r w l j h))
+number_spelled w (Some z) r b i f l e = whole_spelled w z r b i (fits_some true w (Some z) f) (and_true (ltb 0 w && leb w 17) _ f).1 l e
 
 -- ---- a value
 none : {A : Type 0} → false ≡ true → A
@@ -57,7 +57,7 @@ abbrev long_kind : Bool → Kind
 long_kind true = LongTime
 long_kind false = Time
 
-zed_at : (long : Bool) (w : ℕ) (g : General) (r b : List ℕ) (i : ℕ) → digits_of long + 1 ≡ w → w < length r → Alike b (put_by (long_kind long) w (time g) r) i 0 w → get_or b (i + digits_of long) 0 ≡ 90
+zed_at : (long : Bool) (w : ℕ) (g : Option Moment) (r b : List ℕ) (i : ℕ) → digits_of long + 1 ≡ w → w < length r → Alike b (put_by (long_kind long) w (time g) r) i 0 w → get_or b (i + digits_of long) 0 ≡ 90
 unfolding is_long
 zed_at true w g r b i q l e = e.byte 17 (omega arith) ∙ general_zed 17 r g (omega arith) (omega arith)
 zed_at false w g r b i q l e = e.byte 14 (omega arith) ∙ general_zed 14 r g (omega arith) (omega arith)

@@ -10,8 +10,8 @@ use lib.ListN.{replicate, drop}
 use Rattle.calendar.specs.Calendar.{date}
 use Rattle.meter.specs.Integer.{be_at, stored}
 use Rattle.meter.specs.General.{lead, run_of, number_of, is_none, moment_at, put_digits, put_moment, put_x}
-use Rattle.meter.specs.declared.general.General.TheVariants as G
-use Rattle.meter.specs.declared.time.Time.TheVariants as T
+use Rattle.std.specs.declared.option.Option.TheVariants.{Some}
+use Rattle.meter.specs.Instant as T
 use Rattle.record.specs.Header.{header_at, put_header}
 use Rattle.record.specs.Pointer.{pointer_at, put_pointer}
 use Rattle.record.specs.declared.header.Header.{Header}
@@ -34,7 +34,7 @@ abbrev says : String → Value
 says s = text (bytes_of s)
 
 abbrev at : ℕ → Value
-at ms = time (G.At (record { date = date 2005 1 1; hour = 10; minute = 15; second = 0; milli = ms }))
+at ms = time (Some (record { date = date 2005 1 1; hour = 10; minute = 15; second = 0; milli = ms }))
 
 abbrev head : ℕ → ℕ → ℕ → ℕ → ℕ → Header
 head c g s v z = record { class = c; group = g; subclass = s; version = v; size = z; start = T.At 6000 0; stop = T.At 6000 1000 }

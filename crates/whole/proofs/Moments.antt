@@ -12,8 +12,8 @@ use lib.ListN.{length, get_or}
 use lib.Seq.{get_or-set_same, get_or-set_other}
 use Rattle.meter.specs.General.{digits_of, each, number_of, is_none, is_digits, moment_at, is_moment, is_general, general_at, put_moment, put_x, put_none, put_general, fits_general}
 use Rattle.meter.specs.declared.general.Moment.{Moment}
-use Rattle.meter.specs.declared.general.General.{General}
-use Rattle.meter.specs.declared.general.General.TheVariants as G
+use Rattle.std.specs.declared.option.Option.TheVariants.{Some, None}
+use Rattle.std.specs.declared.option.Option.{Option}
 use Rattle.meter.proofs.GeneralRuns.{and_true, Digits, each_in, number_join, digits_number, digits_same, whole_of, whole_is}
 use Rattle.meter.proofs.GeneralWrite.{moment_bounds, moment_back, moment_digits, moment_zed, width_low, x_are, x_length}
 
@@ -35,9 +35,9 @@ short_milli true a i f = refl
 short_milli false a i f = refl
 
 -- ---- what is written ends in Z
-pub general_zed : (n : ℕ) (r : List ℕ) (t : General) → 14 ≤ n → n < length r → get_or (put_general n r t) n 0 ≡ 90
-general_zed n r G.Undefined l h = get_or-set_same (put_x r n) n 90 0 (omega (arith, x_length r n))
-general_zed n r (G.At t) l h = moment_zed n r t l h
+pub general_zed : (n : ℕ) (r : List ℕ) (t : Option Moment) → 14 ≤ n → n < length r → get_or (put_general n r t) n 0 ≡ 90
+general_zed n r None l h = get_or-set_same (put_x r n) n 90 0 (omega (arith, x_length r n))
+general_zed n r (Some t) l h = moment_zed n r t l h
 
 -- ---- WHAT IS READ
 module _ (long : Bool) (a : List ℕ) (i : ℕ) where
@@ -60,7 +60,7 @@ module _ (long : Bool) (a : List ℕ) (i : ℕ) where
   pub general_fits : is_general (digits_of long) a i ≡ true → fits_general long (general_at (digits_of long) a i) ≡ true
   general_fits e = go (is_none (digits_of long) a i) refl e
     where
-      go : (b : Bool) → is_none (digits_of long) a i ≡ b → b || (is_digits (digits_of long) a i && is_moment (moment_at (digits_of long) a i)) ≡ true → fits_general long (cond b G.Undefined (G.At (moment_at (digits_of long) a i))) ≡ true
+      go : (b : Bool) → is_none (digits_of long) a i ≡ b → b || (is_digits (digits_of long) a i && is_moment (moment_at (digits_of long) a i)) ≡ true → fits_general long (cond b None (Some (moment_at (digits_of long) a i))) ≡ true
       go true q e = refl
       go false q e =
           let t = and_true (is_digits (digits_of long) a i) _ e in
@@ -92,12 +92,12 @@ module _ (long : Bool) (a : List ℕ) (i : ℕ) where
     pub general_again : is_general (digits_of long) a i ≡ true → (j : ℕ) → j ≤ digits_of long → get_or (put_general (digits_of long) r (general_at (digits_of long) a i)) j 0 ≡ get_or a (i + j) 0
     general_again e j h = go (is_none (digits_of long) a i) refl e
       where
-        go : (b : Bool) → is_none (digits_of long) a i ≡ b → b || (is_digits (digits_of long) a i && is_moment (moment_at (digits_of long) a i)) ≡ true → get_or (put_general (digits_of long) r (cond b G.Undefined (G.At (moment_at (digits_of long) a i)))) j 0 ≡ get_or a (i + j) 0
+        go : (b : Bool) → is_none (digits_of long) a i ≡ b → b || (is_digits (digits_of long) a i && is_moment (moment_at (digits_of long) a i)) ≡ true → get_or (put_general (digits_of long) r (cond b None (Some (moment_at (digits_of long) a i)))) j 0 ≡ get_or a (i + j) 0
         go true q e = none_again q j h (dec_lt j (digits_of long))
         go false q e = let t = and_true (is_digits (digits_of long) a i) _ e in some_again t.0 t.1 j h (dec_lt j (digits_of long))
 
 -- ---- TWO TIMES THAT READ ALIKE are the same bytes, but for the last of an undefined one
-same_moment : (t u : Moment) → G.At t ≡ G.At u → t ≡ u
+same_moment : (t u : Moment) → Some t ≡ Some u → t ≡ u
 same_moment t u e = cc
 
 some_of : (b c d : Bool) → b || (c && d) ≡ true → b ≡ false → (c ≡ true) × (d ≡ true)
@@ -107,7 +107,7 @@ some_of false c d e f = and_true c d e
 pub times_same : (long : Bool) (a b : List ℕ) (i k : ℕ) → is_general (digits_of long) a i ≡ true → is_general (digits_of long) b k ≡ true → general_at (digits_of long) a i ≡ general_at (digits_of long) b k → (j : ℕ) → j ≤ digits_of long → (get_or a (i + j) 0 ≡ get_or b (k + j) 0) ⊎ ((is_none (digits_of long) a i ≡ true) × (j ≡ digits_of long))
 times_same long a b i k e f g j h = go (is_none (digits_of long) a i) refl (is_none (digits_of long) b k) refl g (dec_lt j (digits_of long))
   where
-    go : (x : Bool) → is_none (digits_of long) a i ≡ x → (y : Bool) → is_none (digits_of long) b k ≡ y → cond x G.Undefined (G.At (moment_at (digits_of long) a i)) ≡ cond y G.Undefined (G.At (moment_at (digits_of long) b k)) → Dec (j < digits_of long) → (get_or a (i + j) 0 ≡ get_or b (k + j) 0) ⊎ ((is_none (digits_of long) a i ≡ true) × (j ≡ digits_of long))
+    go : (x : Bool) → is_none (digits_of long) a i ≡ x → (y : Bool) → is_none (digits_of long) b k ≡ y → cond x None (Some (moment_at (digits_of long) a i)) ≡ cond y None (Some (moment_at (digits_of long) b k)) → Dec (j < digits_of long) → (get_or a (i + j) 0 ≡ get_or b (k + j) 0) ⊎ ((is_none (digits_of long) a i ≡ true) × (j ≡ digits_of long))
     go true p true q g (yes l) = inl (none long a i p j l ∙ sym (none long b k q j l))
     go true p true q g (no l) = inr (p, omega (arith, l))
     go true p false q g l = let z : ◌≡◌ {A = ℕ} 0 1 = cc in absurd (omega arith)

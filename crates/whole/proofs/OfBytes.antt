@@ -15,16 +15,16 @@ use lib.Seq.{get_or-set_same, get_or-set_other, set_out, get_or-append-add, get_
 use Rattle.meter.specs.Integer.{Bytes, stored}
 use Rattle.meter.specs.General.{digits_of, put_digits, put_moment, put_x, put_general}
 use Rattle.meter.specs.Time.{bits_of}
-use Rattle.meter.specs.declared.general.General.{General}
-use Rattle.meter.specs.declared.general.General.TheVariants as G
+use Rattle.std.specs.declared.option.Option.TheVariants.{Some, None}
+use Rattle.std.specs.declared.option.Option.{Option}
+use Rattle.std.specs.Prelude.{ℤ}
+use Rattle.meter.specs.declared.general.Moment.{Moment}
 use Rattle.meter.proofs.GeneralRuns.{and_true, each_in}
 use Rattle.record.specs.Header.{put_header}
 use Rattle.record.specs.Pointer.{put_pointer}
 use Rattle.record.specs.declared.header.Header.{Header}
 use Rattle.record.specs.declared.pointer.Pointer.{Pointer}
 use Rattle.text.specs.Writing.{below, mark, still, put_rest, put_number, fits_text}
-use Rattle.text.specs.declared.Number.{Number}
-use Rattle.text.specs.declared.Number.TheVariants as N
 use Rattle.text.proofs.Laws.{text_wide}
 use Rattle.mphr.specs.Layout.{fields, rows, names, width_of, kind_of}
 use Rattle.mphr.specs.Lines.{is_long, put_name, put_frame}
@@ -99,10 +99,10 @@ unfolding put_x
 of_x a zero b = b
 of_x a (suc n) b = of_x (set a n 120) n (of_set n 120 b (omega arith))
 
-of_general : (n : ℕ) (a : List ℕ) (g : General) → Of a → Of (put_general n a g)
+of_general : (n : ℕ) (a : List ℕ) (g : Option Moment) → Of a → Of (put_general n a g)
 unfolding put_moment
-of_general n a G.Undefined b = of_set n 90 (of_x a n b) (omega arith)
-of_general n a (G.At t) b =
+of_general n a None b = of_set n 90 (of_x a n b) (omega arith)
+of_general n a (Some t) b =
     of_set n 90 (of_digits _ 14 (n - 14) t.milli (of_digits _ 12 2 t.second (of_digits _ 10 2 t.minute (of_digits _ 8 2 t.hour (of_digits _ 6 2 t.date.day (of_digits _ 4 2 t.date.month (of_digits a 0 4 t.date.year b))))))) (omega arith)
 
 of_mark : (minus : Bool) (v : ℕ) → mark minus v < 256
@@ -118,9 +118,9 @@ unfolding put_rest
 of_rest a zero minus v b = b
 of_rest a (suc n) minus v b = of_rest (set a n (mark minus v)) n (still minus v) (v / 10) (of_set n (mark minus v) b (of_mark minus v))
 
-of_number : (w : ℕ) (a : List ℕ) (x : Number) → Of a → Of (put_number w a x)
-of_number w a N.Undefined b = of_x a w b
-of_number w a (N.Whole z) b = of_rest (set a (w - 1) (48 + nat_abs z % 10)) (w - 1) (below z) (nat_abs z / 10) (of_set (w - 1) (48 + nat_abs z % 10) b (omega arith))
+of_number : (w : ℕ) (a : List ℕ) (x : Option ℤ) → Of a → Of (put_number w a x)
+of_number w a None b = of_x a w b
+of_number w a (Some z) b = of_rest (set a (w - 1) (48 + nat_abs z % 10)) (w - 1) (below z) (nat_abs z / 10) (of_set (w - 1) (48 + nat_abs z % 10) b (omega arith))
 
 of_text : (w : ℕ) (t : List ℕ) → fits_text w t ≡ true → Of t
 of_text w t f = record { byte = λ k. go k (dec_lt k w) }

@@ -17,7 +17,8 @@ use Rattle.calendar.proofs.Range.{below, at}
 use Rattle.meter.specs.Integer.{Bytes, be_at}
 use Rattle.meter.specs.Time.{is_time, time_at, compared}
 use Rattle.meter.specs.General.{number_of, digits_of}
-use Rattle.meter.specs.declared.time.Time.TheVariants as Ti
+use Rattle.std.specs.declared.option.Option.TheVariants.{Some, None}
+use Rattle.meter.specs.Instant as T
 use Rattle.meter.proofs.IntegerLaws.{be_at_lt}
 use Rattle.meter.proofs.GeneralRuns.{and_true}
 use Rattle.record.specs.Header.{is_class, is_group, is_lead, is_header, header_at}
@@ -30,7 +31,6 @@ use Rattle.text.specs.Field.{is_x, is_number, integer_of, number_at, is_value}
 use Rattle.text.specs.Writing.{fits_number}
 use Rattle.text.specs.declared.Kind.{Kind}
 use Rattle.text.specs.declared.Kind.TheVariants.{Text, Unsigned, Count, Signed, Time, LongTime}
-use Rattle.text.specs.declared.Number.TheVariants as N
 use Rattle.text.proofs.Meaning.{number_means}
 use Rattle.text.proofs.Exact.{not_x, integer_unsigned}
 use Rattle.text.proofs.Alike.{Alike, value_alike}
@@ -62,7 +62,7 @@ module _ (a : List ℕ) (bs : Bytes a) where
   in_days : (p : ℕ) → InDays (time_at a p)
   in_days p = go (eqb (be_at a p 6) 0xffff_ffff_ffff)
     where
-      go : (b : Bool) → InDays (cond b Ti.Undefined (Ti.At (be_at a p 6 / 0x1_0000_0000) (be_at a p 6 % 0x1_0000_0000)))
+      go : (b : Bool) → InDays (cond b None (T.At (be_at a p 6 / 0x1_0000_0000) (be_at a p 6 % 0x1_0000_0000)))
       go true = tt
       go false = omega (arith, be_at_lt a bs p 6)
 
@@ -249,7 +249,7 @@ module _ (a : List ℕ) (i w : ℕ) where
   number_fits_lem : (signed : Bool) → ltb 0 w && leb w 17 ≡ true → is_number signed a i w || is_x a i w ≡ true → fits_number signed w (number_at a i w) ≡ true
   number_fits_lem signed f e = go (is_x a i w) refl
     where
-      go : (b : Bool) → is_x a i w ≡ b → fits_number signed w (cond b N.Undefined (N.Whole (integer_of a i w))) ≡ true
+      go : (b : Bool) → is_x a i w ≡ b → fits_number signed w (cond b None (Some (integer_of a i w))) ≡ true
       go true x = f
       go false x = and_is f (spelled_of signed a i w (number_means signed a i w (left_true (is_number signed a i w) (is_x a i w) e x)))
 

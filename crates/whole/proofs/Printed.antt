@@ -17,6 +17,8 @@ use Rattle.calendar.specs.Said.{answer}
 use Rattle.meter.specs.Integer.{be_at}
 use Rattle.meter.specs.Time.{is_time, time_at, compared}
 use Rattle.meter.specs.General.{number_of}
+use Rattle.std.specs.declared.option.Option.TheVariants.{Some, None}
+use Rattle.std.specs.declared.option.Option.{Option}
 use Rattle.meter.specs.declared.time.Time.{Time}
 use Rattle.meter.proofs.ReadsBack.{reads_answer}
 use Rattle.record.specs.Header.{header_at, put_header}
@@ -26,7 +28,6 @@ use Rattle.record.specs.declared.header.Header.{Header}
 use Rattle.record.specs.declared.pointer.Pointer.{Pointer}
 use Rattle.record.proofs.HeaderLaws.{header_parts}
 use Rattle.text.specs.Field.{is_x, is_numeric, integer_of, number_at, number_read_at}
-use Rattle.text.specs.declared.Number.TheVariants as N
 use Rattle.mphr.specs.Layout.{width_of, line_start}
 use Rattle.mphr.specs.Table.{headed, declared, total, sum, Sums}
 use Rattle.mphr.specs.Lines.{put_line}
@@ -83,11 +84,11 @@ module _ (a : List ℕ) (i : ℕ) (h : Header) (e : header_at a i ≡ h) where
   kind_of : kind a i ≡ kind_from h.class h.group h.subclass
   kind_of = be_three a i ∙ rw (class_of, group_of, subclass_of)
 
-  timed_with : (s t : Time) → time_at a (i + 8) ≡ s → time_at a (i + 14) ≡ t → is_time s ≡ true → is_time t ≡ true → is_after (compared s t) ≡ false → timed_at a i ≡ true
+  timed_with : (s t : Option Time) → time_at a (i + 8) ≡ s → time_at a (i + 14) ≡ t → is_time s ≡ true → is_time t ≡ true → is_after (compared s t) ≡ false → timed_at a i ≡ true
   unfolding timed_at
   timed_with s t p q u w f =
-      ap (λ (x : Time). (is_time x && is_time (time_at a (i + 14))) && not (is_after (compared x (time_at a (i + 14))))) p
-      ∙ ap (λ (x : Time). (is_time s && is_time x) && not (is_after (compared s x))) q
+      ap (λ (x : Option Time). (is_time x && is_time (time_at a (i + 14))) && not (is_after (compared x (time_at a (i + 14))))) p
+      ∙ ap (λ (x : Option Time). (is_time s && is_time x) && not (is_after (compared s x))) q
       ∙ rw (u, w, f)
 
   pub timed_of : RightHeader h → timed_at a i ≡ true
@@ -201,10 +202,10 @@ count_none [] h = refl
 count_none (x ∷ l) h = let k = h x (top refl) in rw (ne_eqb (head_of x).class 1 (λ e. omega arith), count_none l (λ y n. h y (pop n)))
 
 -- ---- what a number that reads back is
-pub line_number : (a : List ℕ) (i w n : ℕ) → number_read_at true w a i ≡ answer (N.Whole (pos n)) → number_of a i w ≡ n
-line_number a i w n e = go (is_x a i w) refl (reads_answer a i w (is_numeric true a i w) (number_at a i w) (N.Whole (pos n)) e).2
+pub line_number : (a : List ℕ) (i w n : ℕ) → number_read_at true w a i ≡ answer (Some (pos n)) → number_of a i w ≡ n
+line_number a i w n e = go (is_x a i w) refl (reads_answer a i w (is_numeric true a i w) (number_at a i w) (Some (pos n)) e).2
   where
-    go : (b : Bool) → is_x a i w ≡ b → cond b N.Undefined (N.Whole (integer_of a i w)) ≡ N.Whole (pos n) → number_of a i w ≡ n
+    go : (b : Bool) → is_x a i w ≡ b → cond b None (Some (integer_of a i w)) ≡ Some (pos n) → number_of a i w ≡ n
     go true x f = let z : ◌≡◌ {A = ℕ} 0 1 = cc in absurd (omega arith)
     go false x f =
         let g : integer_of a i w ≡ pos n = cc in
@@ -251,7 +252,7 @@ module _ (v : Values) (r : Right v) where
       let s = rw e at (main_stands k h) in
       let u : line_start k + 32 + width_of k ≤ length (main_of v) = omega (arith, main_long, start_next k, start_mono {j = suc k} {k = 72} h, start_72) in
       line_number (main_of v) (line_start k + 32) (width_of k) n
-      (number_line_back k (N.Whole (pos n)) (room (width_of k + 33)) (number_on_lem k (N.Whole (pos n)) h f) (line_room k) (main_of v) s u)
+      (number_line_back k (Some (pos n)) (room (width_of k + 33)) (number_on_lem k (Some (pos n)) h f) (line_room k) (main_of v) s u)
 
   pub main_declared : declared (main_of v) ≡ 3307 + bytes v.records
   unfolding declared

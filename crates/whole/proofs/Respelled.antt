@@ -13,7 +13,8 @@ use lib.ListN.{length, get_or, take, drop, length-take, length-drop}
 use lib.Seq.{get_or-take, get_or-drop, ext_get_or}
 use Rattle.calendar.specs.Said.{answer}
 use Rattle.meter.specs.General.{digits_of, is_general, general_at, general_read_at}
-use Rattle.meter.specs.declared.general.General.{General}
+use Rattle.std.specs.declared.option.Option.{Option}
+use Rattle.meter.specs.declared.general.Moment.{Moment}
 use Rattle.meter.proofs.IntegerLaws.{be_at_same}
 use Rattle.meter.proofs.GeneralRuns.{and_true}
 use Rattle.record.specs.Header.{header_at}
@@ -62,7 +63,7 @@ one_line k l j a b c d = go (dec_lt k l) (dec_lt l k)
     go (no g) (no h) = omega (arith, g, h)
 
 -- ---- the same bytes, the same value
-answer_same : (x y : General) → answer x ≡ answer y → x ≡ y
+answer_same : (x y : Option Moment) → answer x ≡ answer y → x ≡ y
 answer_same x y e = cc
 
 read_is : (long : Bool) (a : List ℕ) (i : ℕ) → i + (digits_of long + 1) ≤ length a → is_general (digits_of long) a i ≡ true → general_read_at long a i ≡ answer (general_at (digits_of long) a i)

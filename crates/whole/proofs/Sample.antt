@@ -12,8 +12,8 @@ use Rattle.calendar.specs.Calendar.{date, leap_day, is_date}
 use Rattle.meter.specs.Integer.{be_at, stored}
 use Rattle.meter.specs.Time.{last_milli}
 use Rattle.meter.specs.General.{lead, run_of, number_of, is_none, is_digits, moment_at, is_moment, last_second, put_digits, put_moment, put_x}
-use Rattle.meter.specs.declared.general.General.TheVariants as G
-use Rattle.meter.specs.declared.time.Time.TheVariants as T
+use Rattle.std.specs.declared.option.Option.TheVariants.{Some, None}
+use Rattle.meter.specs.Instant as T
 use Rattle.record.specs.Header.{is_class, is_group, header_at, put_header}
 use Rattle.record.specs.Pointer.{pointer_at, put_pointer}
 use Rattle.record.specs.Follow.{may_follow, first_after}
@@ -21,7 +21,6 @@ use Rattle.record.specs.Times.{timed_at}
 use Rattle.record.specs.declared.header.Header.{Header}
 use Rattle.text.specs.Field.{is_x, is_number, is_value}
 use Rattle.text.specs.Writing.{put_rest}
-use Rattle.text.specs.declared.Number.TheVariants as N
 use Rattle.mphr.specs.Layout.{fields, rows, names, widths, kinds, width_of, kind_of, line_start, bytes_of}
 use Rattle.mphr.specs.NameTable.{all}
 use Rattle.mphr.specs.Table.{headed, declared, total, sum}
@@ -41,7 +40,7 @@ abbrev says : String → Value
 says s = text (bytes_of s)
 
 abbrev at : ℕ → ℕ → ℕ → ℕ → ℕ → ℕ → ℕ → Value
-at y m d h n s ms = time (G.At (record { date = date y m d; hour = h; minute = n; second = s; milli = ms }))
+at y m d h n s ms = time (Some (record { date = date y m d; hour = h; minute = n; second = s; milli = ms }))
 
 -- a record header of day 6000
 abbrev head : ℕ → ℕ → ℕ → ℕ → ℕ → ℕ → ℕ → Header
@@ -66,10 +65,10 @@ sample = record {
       ∷ at 2016 6 5 0 0 0 0
       ∷ at 2016 6 5 0 0 24 0
       ∷ says "CGS1"
-      ∷ number (N.Whole (pos 7))
-      ∷ number (N.Whole (pos 12))
-      ∷ number (N.Whole (pos 10))
-      ∷ number (N.Whole (pos 0))
+      ∷ number (Some (pos 7))
+      ∷ number (Some (pos 12))
+      ∷ number (Some (pos 10))
+      ∷ number (Some (pos 0))
       ∷ at 2016 6 5 0 30 0 0
       ∷ at 2016 6 5 0 31 12 0
       ∷ says "N"
@@ -77,51 +76,51 @@ sample = record {
       ∷ says "SVL"
       ∷ at 2016 6 5 0 19 0 0
       ∷ at 2016 6 5 0 19 30 0
-      ∷ number (N.Whole (pos 50123))
-      ∷ number (N.Whole (pos 50124))
-      ∷ number (N.Whole (pos 4356))
+      ∷ number (Some (pos 50123))
+      ∷ number (Some (pos 50124))
+      ∷ number (Some (pos 4356))
       ∷ at 2016 6 4 23 50 12 345
-      ∷ number (N.Whole (pos 7204470012))
-      ∷ number (N.Whole (pos 1173))
-      ∷ number (N.Whole (pos 98702))
-      ∷ number (N.Whole (pos 69325))
-      ∷ number (N.Whole (pos 217054))
-      ∷ number (N.Whole (pos 290812))
-      ∷ number (N.Whole (negsuc 5923114337))
-      ∷ number (N.Whole (pos 4099862701))
-      ∷ number (N.Whole (negsuc 0))
-      ∷ number (N.Whole (pos 880223))
-      ∷ number (N.Whole (pos 1352418))
-      ∷ number (N.Whole (pos 7349600))
-      ∷ number (N.Whole (pos 1014629))
-      ∷ number N.Undefined
-      ∷ number N.Undefined
-      ∷ number N.Undefined
-      ∷ number (N.Whole (negsuc 20))
-      ∷ number (N.Whole (pos 4))
-      ∷ number (N.Whole (negsuc 0))
-      ∷ number (N.Whole (pos 47623))
-      ∷ number (N.Whole (negsuc 122400))
-      ∷ number (N.Whole (pos 46180))
-      ∷ number (N.Whole (negsuc 122986))
-      ∷ number (N.Whole (pos 0))
-      ∷ time G.Undefined
-      ∷ number (N.Whole (pos 15))
-      ∷ number (N.Whole (pos 1))
-      ∷ number (N.Whole (pos 1))
-      ∷ number (N.Whole (pos 5))
-      ∷ number (N.Whole (pos 1))
-      ∷ number (N.Whole (pos 1))
-      ∷ number (N.Whole (pos 1))
-      ∷ number (N.Whole (pos 1))
-      ∷ number (N.Whole (pos 4))
-      ∷ number (N.Whole (pos 1))
-      ∷ number N.Undefined
-      ∷ number (N.Whole (pos 1))
-      ∷ number N.Undefined
-      ∷ number (N.Whole (pos 25000))
-      ∷ number (N.Whole (pos 4000))
-      ∷ number (N.Whole (pos 21000))
+      ∷ number (Some (pos 7204470012))
+      ∷ number (Some (pos 1173))
+      ∷ number (Some (pos 98702))
+      ∷ number (Some (pos 69325))
+      ∷ number (Some (pos 217054))
+      ∷ number (Some (pos 290812))
+      ∷ number (Some (negsuc 5923114337))
+      ∷ number (Some (pos 4099862701))
+      ∷ number (Some (negsuc 0))
+      ∷ number (Some (pos 880223))
+      ∷ number (Some (pos 1352418))
+      ∷ number (Some (pos 7349600))
+      ∷ number (Some (pos 1014629))
+      ∷ number None
+      ∷ number None
+      ∷ number None
+      ∷ number (Some (negsuc 20))
+      ∷ number (Some (pos 4))
+      ∷ number (Some (negsuc 0))
+      ∷ number (Some (pos 47623))
+      ∷ number (Some (negsuc 122400))
+      ∷ number (Some (pos 46180))
+      ∷ number (Some (negsuc 122986))
+      ∷ number (Some (pos 0))
+      ∷ time None
+      ∷ number (Some (pos 15))
+      ∷ number (Some (pos 1))
+      ∷ number (Some (pos 1))
+      ∷ number (Some (pos 5))
+      ∷ number (Some (pos 1))
+      ∷ number (Some (pos 1))
+      ∷ number (Some (pos 1))
+      ∷ number (Some (pos 1))
+      ∷ number (Some (pos 4))
+      ∷ number (Some (pos 1))
+      ∷ number None
+      ∷ number (Some (pos 1))
+      ∷ number None
+      ∷ number (Some (pos 25000))
+      ∷ number (Some (pos 4000))
+      ∷ number (Some (pos 21000))
       ∷ says "F"
       ∷ [];
   records =

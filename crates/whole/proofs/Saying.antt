@@ -20,13 +20,15 @@ use Rattle.demands.specs.Demands.{start}
 use Rattle.demands.proofs.Accepted.{first_class, meets_complete}
 use Rattle.query.specs.Query as Q
 use Rattle.query.specs.Query.{sort_of, times_of, Allowed, Denied, short, not_a_field, TextIs, NumberIs, TimeIs, RecordIs, RecordFound, NoRecord, not_yet}
-use Rattle.query.specs.declared.RecordAnswer.{RecordAnswer}
-use Rattle.query.specs.declared.RecordAnswer.TheVariants.{Record, Refused}
-use Rattle.query.specs.declared.FieldAnswer.TheVariants.{Part}
-use Rattle.query.specs.declared.NumberAnswer.{NumberAnswer}
-use Rattle.query.specs.declared.NumberAnswer.TheVariants as B
-use Rattle.query.specs.declared.TimeAnswer.{TimeAnswer}
-use Rattle.query.specs.declared.TimeAnswer.TheVariants as T
+use Rattle.std.specs.declared.result.Result.TheVariants.{Ok, Err}
+use Rattle.std.specs.declared.option.Option.{Option}
+use Rattle.std.specs.declared.result.Result.{Result}
+use Rattle.calendar.specs.declared.Refusal.{Refusal}
+use Rattle.std.specs.Prelude.{ℤ}
+use Rattle.meter.specs.declared.general.Moment.{Moment}
+use Rattle.query.specs.declared.Record.{Record}
+use Rattle.query.specs.Found.{part_found}
+use Rattle.query.specs.Found.{record_found}
 use Rattle.query.proofs.QueryDetermined.{one_start}
 use Rattle.meter.specs.Integer.{Bytes}
 use Rattle.whole.specs.Values.{plain, pointer, Values, head_of, line_in}
@@ -94,18 +96,18 @@ module _ (a b : List ℕ) (bs : Bytes a) (cs : Bytes b) (m : Meets a) (n : Meets
   denied_on (short c h) = absurd (omega (arith, come m))
   denied_on (not_a_field c h d) = not_a_field (main_clean n) (come n) d
 
-  texts : (k i w : ℕ) → TextIs a k (Part i w) → take w (drop i a) ≡ take w (drop i b)
+  texts : (k i w : ℕ) → TextIs a k (part_found i w) → take w (drop i a) ≡ take w (drop i b)
   texts k i w f =
       let t = text_of (kind_of k) a b (line_start k + 32) (width_of k) f.allowed.field.sorted (value_same k (omega (arith, f.allowed.field.known))) in
       rw (f.start_is, f.width_is) t
 
-  numbers : (k : ℕ) (r : NumberAnswer) → NumberIs a k r → NumberIs b k r
-  numbers k (B.Number x) (w, q) = (allowed_on w, q ∙ number_of (kind_of k) a b (line_start k + 32) (width_of k) w.field.sorted (value_same k (omega (arith, w.field.known))))
-  numbers k (B.Refused r) d = denied_on d
+  numbers : (k : ℕ) (r : Result (Option ℤ) Refusal) → NumberIs a k r → NumberIs b k r
+  numbers k (Ok x) (w, q) = (allowed_on w, q ∙ number_of (kind_of k) a b (line_start k + 32) (width_of k) w.field.sorted (value_same k (omega (arith, w.field.known))))
+  numbers k (Err r) d = denied_on d
 
-  times : (k : ℕ) (long : Bool) (r : TimeAnswer) → TimeIs a k long r → TimeIs b k long r
-  times k long (T.Time x) (w, q) = (allowed_on w, q ∙ time_of (kind_of k) a b (line_start k + 32) (width_of k) long w.field.sorted (value_same k (omega (arith, w.field.known))))
-  times k long (T.Refused r) d = denied_on d
+  times : (k : ℕ) (long : Bool) (r : Result (Option Moment) Refusal) → TimeIs a k long r → TimeIs b k long r
+  times k long (Ok x) (w, q) = (allowed_on w, q ∙ time_of (kind_of k) a b (line_start k + 32) (width_of k) long w.field.sorted (value_same k (omega (arith, w.field.known))))
+  times k long (Err r) d = denied_on d
 
   -- the records
   list_same : m.list ≡ n.list
@@ -156,11 +158,11 @@ module _ (a b : List ℕ) (bs : Bytes a) (cs : Bytes b) (m : Meets a) (n : Meets
       let r : NoRecord b k 19 (suc (length n.list)) = not_yet (counts b n).all (omega arith) in
       rw q at r
 
-  records : (k : ℕ) (r : RecordAnswer) → RecordIs a k r → RecordIs b k r
-  records k (Record i h) f =
+  records : (k : ℕ) (r : Result Record Refusal) → RecordIs a k r → RecordIs b k r
+  records k (Ok t) f =
       let p = place f in
       let l : k < suc (length n.list) = omega (arith, p.0, many) in
-      let s : start b k ≡ i = sym (p.1 ∙ start_same k p.0) in
+      let s : start b k ≡ t.start = sym (p.1 ∙ start_same k p.0) in
       record {
         count = suc (length n.list);
         end = (counts b n).end;
@@ -169,7 +171,7 @@ module _ (a b : List ℕ) (bs : Bytes a) (cs : Bytes b) (m : Meets a) (n : Meets
         start = rw s at (started (counts b n).all k l);
         header = f.header ∙ ap (header_at a) p.1 ∙ head_same k p.0 ∙ ap (header_at b) (sym p.1);
       }
-  records k (Refused r) f = not_on f
+  records k (Err r) f = not_on f
 
   -- where record k, not the main header, stands
   later_at : (k i : ℕ) (h : Header) → RecordFound a (suc k) i h → (k < length m.list) × (i ≡ get_or m.list k 0) × (h ≡ header_at a (get_or m.list k 0))
@@ -205,7 +207,7 @@ module _ (a b : List ℕ) (bs : Bytes a) (cs : Bytes b) (m : Meets a) (n : Meets
       let g = rw w at ((answers b cs n).targets k p (omega (arith, many, recs_length b n.list)) y) in
       f ∙ sym g
 
-  targets : (k i : ℕ) (h : Header) → RecordIs a k (Record i h) → h.class ≡ 3 → pointer_read_at a i ≡ pointer_read_at b i
+  targets : (k i : ℕ) (h : Header) → RecordIs a k (record_found i h) → h.class ≡ 3 → pointer_read_at a i ≡ pointer_read_at b i
   targets zero i h f c = absurd (no_first i h f c)
   targets (suc k) i h f c = let p = later_at k i h f in rw p.1 (target_same k p.0 (later_class k h p.2 ∙ c))
 
@@ -218,7 +220,7 @@ module _ (a b : List ℕ) (bs : Bytes a) (cs : Bytes b) (m : Meets a) (n : Meets
       let t = same_payload (header_at a i) (header_at b i) (take (size a i - 20) (drop (i + 20) a)) (take (size b i - 20) (drop (i + 20) b)) (sym (rec_plain a i c) ∙ s ∙ rec_plain b i d) in
       part_byte a i (size a i) j l u ∙ ap (λ (x : List ℕ). get_or x (j - 20) 0) t ∙ sym (part_byte b i (size b i) j l (omega arith))
 
-  payloads : (k i : ℕ) (h : Header) → RecordIs a k (Record i h) → 0 < k → (h.class ≡ 3 → ⊥) → (j : ℕ) → 20 ≤ j → j < h.size → get_or a (i + j) 0 ≡ get_or b (i + j) 0
+  payloads : (k i : ℕ) (h : Header) → RecordIs a k (record_found i h) → 0 < k → (h.class ≡ 3 → ⊥) → (j : ℕ) → 20 ≤ j → j < h.size → get_or a (i + j) 0 ≡ get_or b (i + j) 0
   payloads zero i h f o c j l u = absurd (omega arith)
   payloads (suc k) i h f o c j l u =
       let p = later_at k i h f in

@@ -8,11 +8,15 @@ use Rattle.text.specs.declared.Kind.TheVariants.{Text, Unsigned, Count, Signed, 
 use Rattle.mphr.specs.Layout.{width_of, kind_of}
 use Rattle.demands.specs.Product.{Meets}
 use Rattle.query.specs.Query.{value_start, TextIs, NumberIs, TimeIs, RecordIs}
-use Rattle.query.specs.declared.RecordAnswer.{RecordAnswer}
-use Rattle.query.specs.declared.RecordAnswer.TheVariants.{Record}
-use Rattle.query.specs.declared.FieldAnswer.TheVariants.{Part}
-use Rattle.query.specs.declared.NumberAnswer.{NumberAnswer}
-use Rattle.query.specs.declared.TimeAnswer.{TimeAnswer}
+use Rattle.std.specs.declared.result.Result.TheVariants.{Ok}
+use Rattle.std.specs.declared.option.Option.{Option}
+use Rattle.std.specs.declared.result.Result.{Result}
+use Rattle.calendar.specs.declared.Refusal.{Refusal}
+use Rattle.std.specs.Prelude.{ℤ}
+use Rattle.meter.specs.declared.general.Moment.{Moment}
+use Rattle.query.specs.declared.Record.{Record}
+use Rattle.query.specs.Found.{part_found}
+use Rattle.query.specs.Found.{record_found}
 use Rattle.meter.specs.Integer.{Bytes}
 use Rattle.whole.specs.Values.{print}
 use Rattle.whole.specs.Spelled.{Canonical}
@@ -21,12 +25,12 @@ use Rattle.whole.specs.Parse.{line_at, parse}
 -- b ANSWERS AS a DOES: to the field queries and the record query, whatever is right to answer of a is right of b (the ground points, the rows and the
 -- listing follow from these); to the pointer reader; and the bytes after the headers of the other records are the same
 pub record AnswersAs (a b : List ℕ) : Type 0 where
-  pub texts : (k i w : ℕ) → TextIs a k (Part i w) → take w (drop i a) ≡ take w (drop i b)
-  pub numbers : (k : ℕ) (r : NumberAnswer) → NumberIs a k r → NumberIs b k r
-  pub times : (k : ℕ) (long : Bool) (r : TimeAnswer) → TimeIs a k long r → TimeIs b k long r
-  pub records : (k : ℕ) (r : RecordAnswer) → RecordIs a k r → RecordIs b k r
-  pub targets : (k i : ℕ) (h : Header) → RecordIs a k (Record i h) → h.class ≡ 3 → pointer_read_at a i ≡ pointer_read_at b i
-  pub payloads : (k i : ℕ) (h : Header) → RecordIs a k (Record i h) → 0 < k → (h.class ≡ 3 → ⊥) → (j : ℕ) → 20 ≤ j → j < h.size → get_or a (i + j) 0 ≡ get_or b (i + j) 0
+  pub texts : (k i w : ℕ) → TextIs a k (part_found i w) → take w (drop i a) ≡ take w (drop i b)
+  pub numbers : (k : ℕ) (r : Result (Option ℤ) Refusal) → NumberIs a k r → NumberIs b k r
+  pub times : (k : ℕ) (long : Bool) (r : Result (Option Moment) Refusal) → TimeIs a k long r → TimeIs b k long r
+  pub records : (k : ℕ) (r : Result Record Refusal) → RecordIs a k r → RecordIs b k r
+  pub targets : (k i : ℕ) (h : Header) → RecordIs a k (record_found i h) → h.class ≡ 3 → pointer_read_at a i ≡ pointer_read_at b i
+  pub payloads : (k i : ℕ) (h : Header) → RecordIs a k (record_found i h) → 0 < k → (h.class ≡ 3 → ⊥) → (j : ℕ) → 20 ≤ j → j < h.size → get_or a (i + j) 0 ≡ get_or b (i + j) 0
 
 -- byte j is one of a number's spelling: in line k, "spaces, a sign, digits"; or it is the last byte of a time that a has undefined, x or Z
 abbrev pub InNumber : Kind → ℕ → ℕ → ℕ → Type 0

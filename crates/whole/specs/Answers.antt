@@ -2,33 +2,29 @@
 -- the pointer reader. Assumes nothing.
 use Rattle.std.specs.Prelude.{ℕ, suc, ◌+◌, ◌≤◌, ◌<◌, ◌≡◌, Bool, cond, ◌&&◌, List, [], ◌∷◌, ◌++◌, eqb, length, get_or, take, drop}
 use Rattle.calendar.specs.Said.{answer}
-use Rattle.meter.specs.declared.general.General.{General}
+use Rattle.std.specs.declared.result.Result.TheVariants.{Ok}
+use Rattle.std.specs.declared.option.Option.{Option}
+use Rattle.std.specs.declared.result.Result.{Result}
+use Rattle.calendar.specs.declared.Refusal.{Refusal}
+use Rattle.std.specs.Prelude.{ℤ}
+use Rattle.meter.specs.declared.general.Moment.{Moment}
+use Rattle.query.specs.declared.GroundPoint.{GroundPoint}
+use Rattle.query.specs.declared.Record.{Record}
+use Rattle.query.specs.declared.Part.{Part}
+use Rattle.query.specs.Found.{part_found}
+use Rattle.query.specs.Found.{record_found}
 use Rattle.record.specs.Pointer.{pointer_read_at}
 use Rattle.record.specs.declared.header.Header.{Header}
 use Rattle.record.specs.declared.pointer.Pointer.{Pointer}
-use Rattle.text.specs.declared.Number.{Number}
 use Rattle.mphr.specs.Layout.{bytes_of, width_of, kind_of}
 use Rattle.mphr.specs.Lines.{is_long}
 use Rattle.judge.specs.Table.{Judged}
 use Rattle.judge.specs.declared.arrival.Arrival.{Arrival}
 use Rattle.judge.specs.declared.arrival.Arrival.TheVariants.{Waiting}
 use Rattle.finish.specs.Finish.{put, VerdictIs, FinishedIs}
-use Rattle.finish.specs.declared.Finished.{Finished}
-use Rattle.finish.specs.declared.Finished.TheVariants.{Accepted}
 use Rattle.query.specs.Query.{value_start, TextIs, NumberIs, TimeIs, latitude_field, point_of, PointIs, RecordIs}
-use Rattle.query.specs.declared.RecordAnswer.{RecordAnswer}
-use Rattle.query.specs.declared.RecordAnswer.TheVariants.{Record}
-use Rattle.query.specs.declared.FieldAnswer.{FieldAnswer}
-use Rattle.query.specs.declared.FieldAnswer.TheVariants.{Part}
-use Rattle.query.specs.declared.NumberAnswer.{NumberAnswer}
-use Rattle.query.specs.declared.NumberAnswer.TheVariants as B
-use Rattle.query.specs.declared.TimeAnswer.{TimeAnswer}
-use Rattle.query.specs.declared.TimeAnswer.TheVariants as T
-use Rattle.query.specs.declared.PointAnswer.{PointAnswer}
 use Rattle.listing.specs.Decimal.{column}
 use Rattle.listing.specs.Listing.{row, ListedIs}
-use Rattle.listing.specs.declared.Listed.{Listed}
-use Rattle.listing.specs.declared.Listed.TheVariants.{Bytes}
 use Rattle.whole.specs.Values.{text, number, time, Rec, pointer, Values, head_of, line_in}
 
 -- the headers of the records, the main header's first
@@ -67,13 +63,13 @@ listed v = (bytes_of "records " ++ column (length (heads_of v)) 10) ++ lines_fro
 
 -- THE PRODUCT a ANSWERS WHAT v SAYS, to every query
 pub record Answers (a : List ℕ) (v : Values) : Type 0 where
-  pub verdict : (r : Finished) → VerdictIs a r → r ≡ Accepted (length (heads_of v))
+  pub verdict : (r : Result ℕ Refusal) → VerdictIs a r → r ≡ Ok (length (heads_of v))
   pub arrival : (r : Arrival) → Judged a r → r ≡ Waiting (length (heads_of v)) (length a)
-  pub texts : (k : ℕ) (t : List ℕ) → k < 72 → line_in v k ≡ text t → (r : FieldAnswer) → TextIs a k r → (r ≡ Part (value_start k) (width_of k)) × (take (width_of k) (drop (value_start k) a) ≡ t)
-  pub numbers : (k : ℕ) (x : Number) → k < 72 → line_in v k ≡ number x → (r : NumberAnswer) → NumberIs a k r → r ≡ B.Number x
-  pub times : (k : ℕ) (g : General) → k < 72 → line_in v k ≡ time g → (r : TimeAnswer) → TimeIs a k (is_long (kind_of k)) r → r ≡ T.Time g
-  pub points : (end : Bool) (x y : Number) → line_in v (latitude_field end) ≡ number x → line_in v (latitude_field end + 1) ≡ number y → (r : PointAnswer) → PointIs a end r → r ≡ point_of x y
-  pub records : (k : ℕ) → k < length (heads_of v) → (r : RecordAnswer) → RecordIs a k r → r ≡ Record (start_of v k) (get_or (heads_of v) k v.header)
+  pub texts : (k : ℕ) (t : List ℕ) → k < 72 → line_in v k ≡ text t → (r : Result Part Refusal) → TextIs a k r → (r ≡ part_found (value_start k) (width_of k)) × (take (width_of k) (drop (value_start k) a) ≡ t)
+  pub numbers : (k : ℕ) (x : Option ℤ) → k < 72 → line_in v k ≡ number x → (r : Result (Option ℤ) Refusal) → NumberIs a k r → r ≡ Ok x
+  pub times : (k : ℕ) (g : Option Moment) → k < 72 → line_in v k ≡ time g → (r : Result (Option Moment) Refusal) → TimeIs a k (is_long (kind_of k)) r → r ≡ Ok g
+  pub points : (end : Bool) (x y : Option ℤ) → line_in v (latitude_field end) ≡ number x → line_in v (latitude_field end + 1) ≡ number y → (r : Result (Option GroundPoint) Refusal) → PointIs a end r → r ≡ point_of x y
+  pub records : (k : ℕ) → k < length (heads_of v) → (r : Result Record Refusal) → RecordIs a k r → r ≡ record_found (start_of v k) (get_or (heads_of v) k v.header)
   pub targets : (k : ℕ) (p : Pointer) → k < length v.records → get_or v.records k (pointer p) ≡ pointer p → pointer_read_at a (start_of v (suc k)) ≡ answer p
-  pub rows : (rows rows' : List (List ℕ)) → length (heads_of v) ≤ length rows → (r : Finished) → FinishedIs a rows r rows' → (r ≡ Accepted (length (heads_of v))) × (rows' ≡ put 0 (rows_from [] 0 (heads_of v)) rows)
-  pub listing : (room exit : List ℕ) → length a ≤ 65536 → length (listed v) ≤ length room → (r : Listed) → ListedIs a room r exit → (r ≡ Bytes (length (listed v))) × (exit ≡ listed v ++ drop (length (listed v)) room)
+  pub rows : (rows rows' : List (List ℕ)) → length (heads_of v) ≤ length rows → (r : Result ℕ Refusal) → FinishedIs a rows r rows' → (r ≡ Ok (length (heads_of v))) × (rows' ≡ put 0 (rows_from [] 0 (heads_of v)) rows)
+  pub listing : (room exit : List ℕ) → length a ≤ 65536 → length (listed v) ≤ length room → (r : Result ℕ Refusal) → ListedIs a room r exit → (r ≡ Ok (length (listed v))) × (exit ≡ listed v ++ drop (length (listed v)) room)

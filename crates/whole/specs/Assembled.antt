@@ -1,7 +1,7 @@
 -- FROM THE WRITERS: bytes that were put together of what the writers wrote, each part by its writer's promise, into whatever room. They are the product that
 -- is printed (proofs/Assembled.antt), so `print` is what the code writes. Assumes nothing.
 use Rattle.std.specs.Prelude.{ℕ, ◌+◌, ◌<◌, ◌≡◌, List, [], ◌∷◌, length, get_or}
-use Rattle.meter.specs.declared.integer.Written.TheVariants.{Bytes}
+use Rattle.std.specs.declared.result.Result.TheVariants.{Ok}
 use Rattle.record.specs.Header.{WritesHeader}
 use Rattle.record.specs.Pointer.{WritesPointer}
 use Rattle.record.specs.declared.header.Header.{Header}
@@ -12,9 +12,9 @@ use Rattle.whole.specs.Values.{Value, text, number, time, Rec, plain, pointer, V
 
 -- the writer of line k was lent `room`, answered n bytes, and left it as `exit`
 abbrev pub WroteLine : ℕ → Value → List ℕ → ℕ → List ℕ → Type 0
-WroteLine k (text t) room n exit = WritesTextLine room k t (Bytes n) exit
-WroteLine k (number x) room n exit = WritesNumberLine room k x (Bytes n) exit
-WroteLine k (time g) room n exit = WritesTimeLine room k g (Bytes n) exit
+WroteLine k (text t) room n exit = WritesTextLine room k t (Ok n) exit
+WroteLine k (number x) room n exit = WritesNumberLine room k x (Ok n) exit
+WroteLine k (time g) room n exit = WritesTimeLine room k g (Ok n) exit
 
 -- from byte i on b has the first n bytes of a room
 abbrev pub Has : List ℕ → ℕ → ℕ → List ℕ → Type 0
@@ -32,14 +32,14 @@ pub record HeaderIn (b : List ℕ) (i : ℕ) (h : Header) : Type 0 where
   pub room : List ℕ
   pub exit : List ℕ
   pub count : ℕ
-  pub wrote : WritesHeader room h (Bytes count) exit
+  pub wrote : WritesHeader room h (Ok count) exit
   pub has : Has b i count exit
 
 pub record PointerIn (b : List ℕ) (i : ℕ) (p : Pointer) : Type 0 where
   pub room : List ℕ
   pub exit : List ℕ
   pub count : ℕ
-  pub wrote : WritesPointer room p (Bytes count) exit
+  pub wrote : WritesPointer room p (Ok count) exit
   pub has : Has b i count exit
 
 -- a record at byte i of b: a header and its payload, or a pointer record

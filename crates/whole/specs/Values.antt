@@ -6,7 +6,10 @@ use mathlib.Core.List.{List, [], ◌∷◌, ◌++◌, Memᴰ as In}
 use Rattle.meter.specs.General.{digits_of, put_general}
 use Rattle.meter.specs.Integer.{Bytes}
 use Rattle.meter.specs.Time.{InDays, compared}
-use Rattle.meter.specs.declared.general.General.{General}
+use Rattle.std.specs.declared.option.Option.TheVariants.{Some}
+use Rattle.std.specs.declared.option.Option.{Option}
+use Rattle.std.specs.Prelude.{ℤ}
+use Rattle.meter.specs.declared.general.Moment.{Moment}
 use Rattle.record.specs.Header.{is_header, put_header}
 use Rattle.record.specs.Pointer.{put_pointer}
 use Rattle.record.specs.Follow.{may_follow}
@@ -14,8 +17,6 @@ use Rattle.record.specs.Times.{is_after}
 use Rattle.record.specs.declared.header.Header.{Header}
 use Rattle.record.specs.declared.pointer.Pointer.{Pointer}
 use Rattle.text.specs.Writing.{put_text, put_number}
-use Rattle.text.specs.declared.Number.{Number}
-use Rattle.text.specs.declared.Number.TheVariants as N
 use Rattle.mphr.specs.Layout.{width_of, kind_of}
 use Rattle.mphr.specs.Lines.{text_fits, number_fits, time_fits, is_long, put_line}
 
@@ -23,8 +24,8 @@ use Rattle.mphr.specs.Lines.{text_fits, number_fits, time_fits, is_long, put_lin
 -- of a line of the main header: a text; a number or none; a time or none
 pub data Value : Type 0 where
   text : List ℕ → Value
-  number : Number → Value
-  time : General → Value
+  number : Option ℤ → Value
+  time : Option Moment → Value
 
 -- of a record after the main header: its header and the bytes after it; or a pointer record, its header and what it points to
 pub data Rec : Type 0 where
@@ -150,7 +151,7 @@ abbrev pub line_in : Values → ℕ → Value
 line_in v k = get_or v.lines k (text [])
 
 abbrev pub whole : ℕ → Value
-whole n = number (N.Whole (pos n))
+whole n = number (Some (pos n))
 
 -- RIGHT VALUES. Lines 28 and 55 to 63 are ACTUAL_PRODUCT_SIZE, TOTAL_RECORDS and the totals of classes 1 to 8
 pub record Right (v : Values) : Type 0 where

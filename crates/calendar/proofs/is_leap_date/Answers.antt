@@ -1,11 +1,12 @@
 -- `calendar::is_leap_date` meets its contract: a date that has a day number is asked by it, and no other has a leap second. Assumes nothing.
 use Prim.Native.Nat.{ℕ}
+use Rattle.calendar.specs.Said.{said}
 use mathlib.Core.Path.{◌≡◌, refl, sym, ap, ◌∙◌}
 use mathlib.Core.Bool.{Bool, true, false, cond, ◌&&◌}
 use native.Mathlib.Omega.{arith}
 use Rattle.calendar.specs.Said.{Said, answer, refusal, refused}
 use Rattle.calendar.specs.declared.Refusal.{Refusal}
-use Rattle.calendar.specs.Calendar.{days_to, has_day, leap_day, leap_date, said_day}
+use Rattle.calendar.specs.Calendar.{days_to, has_day, leap_day, leap_date}
 use Rattle.calendar.proofs.is_leap_date.Goals as goal
 
 -- by whether the date has a day number
@@ -17,14 +18,14 @@ none : (b : Bool) (m : ℕ) (r : Refusal) → ◌≡◌ {A = Said ℕ} (refused 
 none true m r e = let z : ◌≡◌ {A = ℕ} 0 1 = cc in absurd (omega arith)
 none false m r e = refl
 
-pub returns-in-Day : goal.returns-in-Day
+pub returns-in-Ok : goal.returns-in-Ok
 unfolding leap_date
-returns-in-Day c =
+returns-in-Ok c =
     let x = c.args.date in
-    c.is_leap_day.ensures ∙ numbered (has_day x) (days_to x) c.in-Day.n (sym (ap said_day c.in-Day.is) ∙ c.day_number.ensures)
+    c.is_leap_day.ensures ∙ numbered (has_day x) (days_to x) c.in-Ok.n (sym (ap said c.in-Ok.is) ∙ c.day_number.ensures)
 
-pub returns-in-Refused : goal.returns-in-Refused
+pub returns-in-Err : goal.returns-in-Err
 unfolding leap_date
-returns-in-Refused c =
+returns-in-Err c =
     let x = c.args.date in
-    none (has_day x) (days_to x) _ (sym (ap said_day c.in-Refused.is) ∙ c.day_number.ensures)
+    none (has_day x) (days_to x) _ (sym (ap said c.in-Err.is) ∙ c.day_number.ensures)

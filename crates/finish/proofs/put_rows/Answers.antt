@@ -1,6 +1,7 @@
 -- `finish::put_rows` meets its contract: a product that is covered by its records has room in the list of rows or has not. Assumes nothing.
 use Prim.Native.Nat.{ℕ}
 use mathlib.Core.List.{◌∷◌}
+use mathlib.Core.Path.{refl}
 use lib.ListN.{length-replicate, get_or-replicate}
 use Rattle.finish.specs.Finish.{starts, no_room}
 use Rattle.finish.proofs.Filling.{fillable, filled, refused_with_lem}
@@ -8,7 +9,7 @@ use Rattle.finish.proofs.put_rows.Goals as goal
 
 pub returns-then-rows-count : goal.returns-then-rows-count
 returns-then-rows-count c =
-    refused_with_lem c.args.s.now _ c.refused.ensures (no_room c.requires.0 c.requires.1 c.if-rows-count.true)
+    refused_with_lem c.args.s.now _ refl (no_room c.requires.0 c.requires.1 c.if-rows-count.true)
 
 pub fill-requires : goal.fill-requires
 fill-requires c =

@@ -1,9 +1,6 @@
--- The invariant of the loop, and its measure.
+-- The invariant of the loop: the digits of `rest` go from byte `at` up to byte i.
 use Rattle.listing.proofs.ColumnLaws.{Writing}
 use Rattle.listing.proofs.put_column.Given as goal
 
-abbrev pub invariant-loop-rest : goal.invariant-loop-rest
-invariant-loop-rest l = Writing l.initial.room l.at l.v l.room l.i l.rest
-
-abbrev pub decreases-loop-rest : goal.decreases-loop-rest
-decreases-loop-rest l = l.rest
+abbrev pub invariant-loop-i : goal.invariant-loop-i
+invariant-loop-i l = Writing l.initial.room l.at l.v l.room l.i l.rest

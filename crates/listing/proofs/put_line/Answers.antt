@@ -17,16 +17,16 @@ abbrev K : Start → List ℕ
 K s = columns s.args.s.now s.args.at
 
 put2 : (c : After-put_column-group) → Puts c.put_column-class.new.room c.put_column-class.result (column (get_or (K (goal.at.After-put_column-group c).Start) 1 0) 32) c.put_column-group.result c.put_column-group.new.room
-put2 c = column_at 32 c.wide.ensures c.put_column-group.ensures
+put2 c = column_at 32 c.from.ensures c.put_column-group.ensures
 
 put3 : (c : After-put_column-subclass) → Puts c.put_column-group.new.room c.put_column-group.result (column (get_or (K (goal.at.After-put_column-subclass c).Start) 2 0) 32) c.put_column-subclass.result c.put_column-subclass.new.room
-put3 c = column_at 32 c.wide-2.ensures c.put_column-subclass.ensures
+put3 c = column_at 32 c.from-2.ensures c.put_column-subclass.ensures
 
 put4 : (c : After-put_column-version) → Puts c.put_column-subclass.new.room c.put_column-subclass.result (column (get_or (K (goal.at.After-put_column-version c).Start) 3 0) 32) c.put_column-version.result c.put_column-version.new.room
-put4 c = column_at 32 c.wide-3.ensures c.put_column-version.ensures
+put4 c = column_at 32 c.from-3.ensures c.put_column-version.ensures
 
 put5 : (c : After-put_column-size) → Puts c.put_column-version.new.room c.put_column-version.result (column (get_or (K (goal.at.After-put_column-size c).Start) 4 0) 32) c.put_column-size.result c.put_column-size.new.room
-put5 c = column_at 32 c.wide-4.ensures c.put_column-size.ensures
+put5 c = column_at 32 c.from-4.ensures c.put_column-size.ensures
 
 fit1 : (s : Start) → s.args.p + length (row (K s)) ≤ length s.args.room.now
 unfolding line
@@ -51,16 +51,16 @@ pub put_column-class-requires : goal.put_column-class-requires
 put_column-class-requires c = fits_column (get_or (K (goal.at.put_column-class-requires c).Start) 1 0) (drop 2 (K (goal.at.put_column-class-requires c).Start)) _ refl (fit1 (goal.at.put_column-class-requires c).Start)
 
 pub put_column-group-requires : goal.put_column-group-requires
-put_column-group-requires c = let k = K (goal.at.put_column-group-requires c).Start in fits_column (get_or k 2 0) (drop 3 k) _ c.wide.ensures (fit2 (goal.at.put_column-group-requires c).After-put_column-class)
+put_column-group-requires c = let k = K (goal.at.put_column-group-requires c).Start in fits_column (get_or k 2 0) (drop 3 k) _ c.from.ensures (fit2 (goal.at.put_column-group-requires c).After-put_column-class)
 
 pub put_column-subclass-requires : goal.put_column-subclass-requires
-put_column-subclass-requires c = let k = K (goal.at.put_column-subclass-requires c).Start in fits_column (get_or k 3 0) (drop 4 k) _ c.wide-2.ensures (fit3 (goal.at.put_column-subclass-requires c).After-put_column-group)
+put_column-subclass-requires c = let k = K (goal.at.put_column-subclass-requires c).Start in fits_column (get_or k 3 0) (drop 4 k) _ c.from-2.ensures (fit3 (goal.at.put_column-subclass-requires c).After-put_column-group)
 
 pub put_column-version-requires : goal.put_column-version-requires
-put_column-version-requires c = let k = K (goal.at.put_column-version-requires c).Start in fits_column (get_or k 4 0) (drop 5 k) _ c.wide-3.ensures (fit4 (goal.at.put_column-version-requires c).After-put_column-subclass)
+put_column-version-requires c = let k = K (goal.at.put_column-version-requires c).Start in fits_column (get_or k 4 0) (drop 5 k) _ c.from-3.ensures (fit4 (goal.at.put_column-version-requires c).After-put_column-subclass)
 
 pub put_column-size-requires : goal.put_column-size-requires
-put_column-size-requires c = let k = K (goal.at.put_column-size-requires c).Start in fits_column (get_or k 5 0) (drop 6 k) _ c.wide-4.ensures (fit5 (goal.at.put_column-size-requires c).After-put_column-version)
+put_column-size-requires c = let k = K (goal.at.put_column-size-requires c).Start in fits_column (get_or k 5 0) (drop 6 k) _ c.from-4.ensures (fit5 (goal.at.put_column-size-requires c).After-put_column-version)
 
 size : (c : After-size_at) → c.size_at.result ≡ size_at c.args.s.now c.args.at
 size c = c.size_at.ensures ∙ size_there_lem c.args.s.now c.args.at c.requires.0

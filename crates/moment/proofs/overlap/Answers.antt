@@ -2,6 +2,6 @@
 use Rattle.moment.proofs.MomentLaws.{overlap_is}
 use Rattle.moment.proofs.overlap.Goals as goal
 
-pub returns-in-At-start : goal.returns-in-At-start
-returns-in-At-start c =
-    overlap_is _ _ _ _ _ _ _ _ _ c.in-At.is c.in-At-start.is c.place_of.ensures c.place_of-in-At-start.ensures c.above.ensures
+pub returns-in-Some-start : goal.returns-in-Some-start
+returns-in-Some-start c =
+    overlap_is _ _ _ _ _ _ _ _ _ c.in-Some.is c.in-Some-start.is c.place_of.ensures c.place_of-in-Some-start.ensures c.saturating_sub.ensures

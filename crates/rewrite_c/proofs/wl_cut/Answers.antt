@@ -2,6 +2,7 @@
 use mathlib.Core.Path.{◌≡◌}
 use mathlib.Core.List.{List}
 use Prim.Native.Nat.{ℕ}
+use Rattle.std.specs.declared.option.Option.{Option}
 use Rattle.meter.specs.declared.time.Time.{Time}
 use Rattle.parts.specs.Cut.{Window, window}
 use Rattle.rewrite.specs.Cut.{CutIs}
@@ -9,7 +10,7 @@ use Rattle.told.proofs.Laws.{moved}
 use Rattle.rewrite_c.proofs.wl_cut.Goals as goal
 
 -- the window by the times that were made
-same-window : {t t' u u' : Time} → t ≡ t' → u ≡ u' → window t u ≡ window t' u'
+same-window : {t t' u u' : Option Time} → t ≡ t' → u ≡ u' → window t u ≡ window t' u'
 same-window e f = cc
 
 pub returns : goal.returns

@@ -22,11 +22,11 @@ returns-then-width-gt17 c =
     let l : 17 < a.width = omega arith in
     fits_wide a.signed a.width a.number (rw (lt-ltb 0 a.width h, lt-leb a.width 17 l))
 
-pub returns-in-Undefined : goal.returns-in-Undefined
-returns-in-Undefined c = let a = c.args in fits_undefined a.signed a.width a.number (omega arith) (omega arith) c.in-Undefined.is
+pub returns-in-None : goal.returns-in-None
+returns-in-None c = let a = c.args in fits_undefined a.signed a.width a.number (omega arith) (omega arith) c.in-None.is
 
-pub returns-in-Whole : goal.returns-in-Whole
-returns-in-Whole c =
+pub returns-in-Some : goal.returns-in-Some
+returns-in-Some c =
     let a = c.args in
-    let z = to_z-of_z w64 c.in-Whole.z (record { sfits = c.in-Whole.known_told-1-own.given.0.1 }) in
-    c.spells.ensures ∙ ap (spelled a.signed a.width) z ∙ fits_whole a.signed a.width a.number (omega arith) (omega arith) c.in-Whole.z c.in-Whole.is
+    let z = to_z-of_z w64 c.in-Some.z (record { sfits = c.in-Some.known_told-1-own.given.0.1 }) in
+    c.spells.ensures ∙ ap (spelled a.signed a.width) z ∙ fits_whole a.signed a.width a.number (omega arith) (omega arith) c.in-Some.z c.in-Some.is

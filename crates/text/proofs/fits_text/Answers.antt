@@ -7,4 +7,4 @@ pub returns-then-text-width : goal.returns-then-text-width
 returns-then-text-width c = simp (ne_eqb _ _ c.if-text-width.true)
 
 pub returns : goal.returns
-returns c = simp (eq-eqb _ _ c.if-text-width.false, sym c.run.ensures.0)
+returns c = let e = c.if-text-width.false in simp (eq-eqb _ _ e, sym (rw e at c.run.ensures.0))

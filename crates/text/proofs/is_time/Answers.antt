@@ -1,6 +1,7 @@
 -- `text::is_time` meets its contract: the width, then what read_general says. Assumes nothing.
 use Rattle.text.proofs.Laws.{time_wide, time_read, time_refused}
-use Rattle.meter.specs.General.{digits_of, said_general}
+use Rattle.calendar.specs.Said.{said}
+use Rattle.meter.specs.General.{digits_of}
 use Prim.Native.Nat.{◌+◌}
 use mathlib.Core.Bool.{Bool}
 use mathlib.Core.Path.{◌≡◌, sym, ap, ◌∙◌}
@@ -13,12 +14,12 @@ due-is c = elim c.if-long.branch [ then-long w ↦ w.due-is ∙ sym (ap (λ (b :
 pub returns-then-width-due : goal.returns-then-width-due
 returns-then-width-due c = let a = c.args in time_wide a.long a.bytes.now a.at a.width c.if-long.due (due-is (goal.at.returns-then-width-due c).Joined-long) c.if-width-due.true
 
-pub returns-in-Time : goal.returns-in-Time
-returns-in-Time c =
+pub returns-in-Ok : goal.returns-in-Ok
+returns-in-Ok c =
     let a = c.args in
-    time_read a.long a.bytes.now a.at a.width c.if-long.due (due-is (goal.at.returns-in-Time c).Joined-long) c.if-width-due.false c.requires c.in-Time.field-0 (sym (ap said_general c.in-Time.is) ∙ c.read_general.ensures)
+    time_read a.long a.bytes.now a.at a.width c.if-long.due (due-is (goal.at.returns-in-Ok c).Joined-long) c.if-width-due.false c.requires c.in-Ok.field-0 (sym (ap said c.in-Ok.is) ∙ c.read_general.ensures)
 
-pub returns-in-Refused : goal.returns-in-Refused
-returns-in-Refused c =
+pub returns-in-Err : goal.returns-in-Err
+returns-in-Err c =
     let a = c.args in
-    time_refused a.long a.bytes.now a.at a.width c.if-long.due (due-is (goal.at.returns-in-Refused c).Joined-long) c.if-width-due.false c.requires c.in-Refused.field-0 (sym (ap said_general c.in-Refused.is) ∙ c.read_general.ensures)
+    time_refused a.long a.bytes.now a.at a.width c.if-long.due (due-is (goal.at.returns-in-Err c).Joined-long) c.if-width-due.false c.requires c.in-Err.field-0 (sym (ap said c.in-Err.is) ∙ c.read_general.ensures)

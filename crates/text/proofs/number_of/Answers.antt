@@ -1,42 +1,39 @@
--- `text::number_of` meets its contract. The invariant: v is the number of the j bytes passed, and so below 23 * 10 ^ j, since a byte is
--- below 256. Assumes nothing.
-use Rattle.meter.proofs.GeneralRuns.{number_below}
-use Rattle.meter.specs.General.{number_of}
-use mathlib.Core.Path.{◌≡◌, ap, ◌∙◌}
-use native.Mathlib.Numerals.{add-one}
-use native.Mathlib.Omega.{arith}
-use Prim.Native.Nat.{◌+◌}
+-- `text::number_of` meets its contract. The invariant: v is the number of the bytes passed, and so below 23 * 10 ^ j after j of
+-- them, since a byte is below 256. Assumes nothing.
 use borrow.Author.Rules.{rules}
+use Prim.Native.Nat.{◌+◌, ◌<◌}
+use native.Mathlib.Omega.{arith}
+use native.Mathlib.Numerals.{add-one}
+use mathlib.Core.Path.{◌≡◌, ap, ◌∙◌}
+use Rattle.meter.specs.General.{number_of}
+use Rattle.meter.proofs.Parts.{part_length, part_at}
+use Rattle.meter.proofs.GeneralRuns.{number_below}
 use Rattle.text.proofs.number_of.Goals as goal
 
-pub loop-j-init : goal.loop-j-init
+pub loop-b-init : goal.loop-b-init
 unfolding number_of
-loop-j-init c = search rules
+loop-b-init c = search rules
 
 pub overflow_mul-v : goal.overflow_mul-v
-overflow_mul-v c = let a = c.args in omega (arith, number_below a.bytes.now (λ k. (c.shared_slice_known-1.given k).fits) a.at c.loop-j.j 16 (omega arith))
-
-pub overflow_add-at : goal.overflow_add-at
-overflow_add-at c = omega arith
-
-pub bounds-bytes-at : goal.bounds-bytes-at
-bounds-bytes-at c = omega arith
+overflow_mul-v c =
+    let a = c.args in
+    omega (arith, part_length a.bytes.now a.at a.n c.requires.1, number_below a.bytes.now (λ k. (c.type_inv.bytes k).fits) a.at c.loop-b.b-index 16 (omega (arith, part_length a.bytes.now a.at a.n c.requires.1)))
 
 pub overflow_add-v : goal.overflow_add-v
-overflow_add-v c = let a = c.args in omega (arith, number_below a.bytes.now (λ k. (c.shared_slice_known-1.given k).fits) a.at c.loop-j.j 16 (omega arith), c.shared_slice_known-1.given (a.at + c.loop-j.j))
+overflow_add-v c =
+    let a = c.args in
+    let k : c.loop-b.b-index < a.n = omega (arith, part_length a.bytes.now a.at a.n c.requires.1) in
+    omega (arith, number_below a.bytes.now (λ k. (c.type_inv.bytes k).fits) a.at c.loop-b.b-index 16 (omega arith), part_at a.bytes.now a.at a.n c.loop-b.b-index k, c.type_inv.bytes (a.at + c.loop-b.b-index))
 
-pub overflow_add-j : goal.overflow_add-j
-overflow_add-j c = omega arith
-
-pub loop-j-smaller : goal.loop-j-smaller
-loop-j-smaller c = omega arith
-
-pub loop-j-preserved : goal.loop-j-preserved
+pub loop-b-preserved : goal.loop-b-preserved
 unfolding number_of
-loop-j-preserved c = (omega arith, rw add-one (omega arith))
+loop-b-preserved c =
+    let a = c.args in
+    let k : c.loop-b.b-index < a.n = omega (arith, part_length a.bytes.now a.at a.n c.requires.1) in
+    rw add-one (omega (arith, part_at a.bytes.now a.at a.n c.loop-b.b-index k))
 
 pub returns : goal.returns
 returns c =
     let a = c.args in
-    let e : c.loop-j.j ≡ a.n = omega arith in
-    c.loop-j.invariant.1 ∙ ap (number_of a.bytes.now a.at) e
+    let e : c.loop-b.b-index ≡ a.n = omega (arith, part_length a.bytes.now a.at a.n c.requires.1) in
+    c.loop-b.invariant ∙ ap (number_of a.bytes.now a.at) e

@@ -1,11 +1,7 @@
--- The invariant of the loop, and its measure.
-use Rattle.meter.specs.General.{number_of}
+-- The invariant of the loop.
 use mathlib.Core.Path.{◌≡◌}
-use Prim.Native.Nat.{◌-◌, ◌≤◌}
+use Rattle.meter.specs.General.{number_of}
 use Rattle.text.proofs.number_of.Given as goal
 
-abbrev pub invariant-loop-j : goal.invariant-loop-j
-invariant-loop-j l = (l.j ≤ l.n) × (l.v ≡ number_of l.bytes l.at l.j)
-
-abbrev pub decreases-loop-j : goal.decreases-loop-j
-decreases-loop-j l = l.n - l.j
+abbrev pub invariant-loop-b : goal.invariant-loop-b
+invariant-loop-b l = l.v ≡ number_of l.bytes l.at l.b-index

@@ -5,11 +5,11 @@ use mir.Syntax.{w64}
 use mathlib.Core.Path.{sym, ap, ◌∙◌}
 use Rattle.text.proofs.put_number.Goals as goal
 
-pub returns-in-Undefined : goal.returns-in-Undefined
-returns-in-Undefined c = let a = c.args in c.put_x.ensures ∙ sym (ap (put_number a.width a.room.now) c.in-Undefined.is)
+pub returns-in-None : goal.returns-in-None
+returns-in-None c = let a = c.args in c.put_x.ensures ∙ sym (ap (put_number a.width a.room.now) c.in-None.is)
 
-pub returns-in-Whole : goal.returns-in-Whole
-returns-in-Whole c =
+pub returns-in-Some : goal.returns-in-Some
+returns-in-Some c =
     let a = c.args in
-    let z = to_z-of_z w64 c.in-Whole.z (record { sfits = c.in-Whole.known_told-1-own.given.0.1 }) in
-    c.put_whole.ensures ∙ ap (put_whole a.room.now a.width) z ∙ sym (ap (put_number a.width a.room.now) c.in-Whole.is)
+    let z = to_z-of_z w64 c.in-Some.z (record { sfits = c.in-Some.known_told-1-own.given.0.1 }) in
+    c.put_whole.ensures ∙ ap (put_whole a.room.now a.width) z ∙ sym (ap (put_number a.width a.room.now) c.in-Some.is)

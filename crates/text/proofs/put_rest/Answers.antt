@@ -3,35 +3,19 @@ use Rattle.text.proofs.Laws.{rest_step, rest_none}
 use Rattle.text.specs.Writing.{mark, put_rest}
 use lib.ListN.{set, length-set}
 use Prim.Native.Nat.{ℕ, ◌-◌, ◌/◌}
-use mathlib.Core.Path.{refl, sym, ap, ◌∙◌}
+use mathlib.Core.Path.{sym, ap, ◌∙◌}
 use mathlib.Core.Bool.{Bool}
 use native.Mathlib.Omega.{arith}
 use Rattle.text.proofs.put_rest.Goals as goal
 
-pub loop-i-init : goal.loop-i-init
-loop-i-init c = (omega arith, refl, refl)
-
-pub overflow_sub-i : goal.overflow_sub-i
-overflow_sub-i c = omega arith
-
-pub bounds-room-i : goal.bounds-room-i
-bounds-room-i c = omega arith
-
-pub loop-i-smaller : goal.loop-i-smaller
-loop-i-smaller c = omega arith
-
 pub loop-i-preserved : goal.loop-i-preserved
 loop-i-preserved c =
     let l = c.loop-i in (
-      omega arith,
-      simp length-set l.invariant.1,
+      simp length-set l.invariant.0,
       ap (λ (b : ℕ). put_rest (set l.room (l.i - 1) b) (l.i - 1) c.is_due-due.result (l.rest / 10)) c.mark_of.ensures
           ∙ ap (λ (b : Bool). put_rest (set l.room (l.i - 1) (mark l.due l.rest)) (l.i - 1) b (l.rest / 10)) c.is_due-due.ensures
-          ∙ sym (rest_step l.room l.i l.due l.rest (omega arith)) ∙ l.invariant.2,
+          ∙ sym (rest_step l.room l.i l.due l.rest (omega arith)) ∙ l.invariant.1,
     )
 
-pub shape_of-room : goal.shape_of-room
-shape_of-room c = c.loop-i.invariant.1
-
 pub returns : goal.returns
-returns c = let l = c.loop-i in sym (rest_none l.room l.i l.due l.rest (omega arith)) ∙ l.invariant.2
+returns c = let l = c.loop-i in sym (rest_none l.room l.i l.due l.rest (omega arith)) ∙ l.invariant.1

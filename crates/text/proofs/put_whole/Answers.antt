@@ -18,4 +18,4 @@ shape_of-room c = c.room-1.given ∙ simp length-set
 pub returns : goal.returns
 returns c =
     let a = c.args in
-    whole_put a.room.now a.width a.z c.size_of-size.result _ _ (c.size_of-size.ensures ∙ ap nat_abs (to_z-of_z w64 a.z c.ranges.z)) (sym (tested a.z c.ranges.z _ refl) ∙ below_is a.z) c.put_rest.ensures
+    whole_put a.room.now a.width a.z c.unsigned_abs-size.result _ _ (c.unsigned_abs-size.ensures.value ∙ ap nat_abs (to_z-of_z w64 a.z c.ranges.z)) (sym (tested a.z c.ranges.z _ refl) ∙ below_is a.z) c.put_rest.ensures

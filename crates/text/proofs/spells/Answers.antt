@@ -20,13 +20,13 @@ returns-then-not-signed c =
 pub returns-then-z-lt0 : goal.returns-then-z-lt0
 returns-then-z-lt0 c =
     let a = c.args in
-    let m = c.size_of-size.ensures ∙ ap nat_abs (to_z-of_z w64 a.z c.ranges.z) in
+    let m = c.unsigned_abs-size.ensures.value ∙ ap nat_abs (to_z-of_z w64 a.z c.ranges.z) in
     ap (λ (k : ℕ). ltb k c.power.result) m ∙ ap (ltb (nat_abs a.z)) c.power.ensures
     ∙ spelled_below a.width a.z c.requires.0 (tested a.z c.ranges.z true c.if-z-lt0.true) ∙ sym (ap (λ (b : Bool). spelled b a.width a.z) (not-false a.signed c.if-not-signed.false-raw))
 
 pub returns : goal.returns
 returns c =
     let a = c.args in
-    let m = c.size_of-size.ensures ∙ ap nat_abs (to_z-of_z w64 a.z c.ranges.z) in
+    let m = c.unsigned_abs-size.ensures.value ∙ ap nat_abs (to_z-of_z w64 a.z c.ranges.z) in
     ap (λ (k : ℕ). ltb k c.power-2.result) m ∙ ap (ltb (nat_abs a.z)) c.power-2.ensures
     ∙ spelled_above a.signed a.width a.z (tested a.z c.ranges.z false c.if-z-lt0.false)

@@ -4,8 +4,8 @@ use borrow.Author.Tests.{not-true, not-false}
 use Rattle.watch.proofs.StepLaws.{stands_sane, walking_on, resting}
 use Rattle.watch.proofs.advance.Goals as goal
 
-pub returns-then-fed-ne0 : goal.returns-then-fed-ne0
-returns-then-fed-ne0 c = let e = c.rested-fed.ensures c.if-fed-ne0.true in λ a s z. resting s z c.if-got-lt3307.false _ e.0 (omega (arith, e.0, e.1))
+pub returns-in-Some : goal.returns-in-Some
+returns-in-Some c = let e = c.in-Some.ensures in λ a s z. resting s z c.if-got-lt3307.false _ e.0 (omega (arith, e.0, e.1))
 
 pub returns-then-not-is_sane : goal.returns-then-not-is_sane
 returns-then-not-is_sane c =

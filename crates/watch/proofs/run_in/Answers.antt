@@ -5,17 +5,16 @@ use Rattle.judge.proofs.RunLaws.{run_le, run_within}
 use Rattle.watch.proofs.RunLaws.{run_fed}
 use Rattle.watch.proofs.run_in.Goals as goal
 
-pub returns-then-lesser-base : goal.returns-then-lesser-base
-returns-then-lesser-base c = record { counted = omega arith; inside = c.requires.0; few = omega arith; right = λ b f. none }
+pub returns-then-min-base : goal.returns-then-min-base
+returns-then-min-base c = record { counted = omega arith; inside = c.requires.0; few = omega arith; right = λ b f. none }
 
 pub returns : goal.returns
 returns c =
-    let l = c.lesser.ensures in
     let a : Alike c.args.part.now c.args.class c.args.size (c.args.due - c.args.base) (c.args.d - c.args.base) c.args.most (c.args.to - c.args.base) c.run_of-run.result.count c.run_of-run.result.end = c.run_of-run.ensures c.requires.2 in
     -- the part starts before the record ends, and before a pointer is due
-    let to : c.args.base + (c.args.to - c.args.base) ≡ c.args.to = omega (arith, l.0) in
-    let due : c.args.base + (c.args.due - c.args.base) ≡ c.args.due = omega (arith, l.1) in
-    let d : c.args.base + (c.args.d - c.args.base) ≡ c.args.d = omega (arith, l.0, c.requires.0) in
+    let to : c.args.base + (c.args.to - c.args.base) ≡ c.args.to = omega arith in
+    let due : c.args.base + (c.args.due - c.args.base) ≡ c.args.due = omega arith in
+    let d : c.args.base + (c.args.d - c.args.base) ≡ c.args.d = omega arith in
     let m = run_le a in
     record {
       counted = omega (arith, m.0, to);

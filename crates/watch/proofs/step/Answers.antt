@@ -2,4 +2,4 @@
 use Rattle.watch.proofs.step.Goals as goal
 
 pub returns : goal.returns
-returns c = c.step_in-r.ensures
+returns c = c.step_in-gone.ensures

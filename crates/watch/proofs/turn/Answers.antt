@@ -56,11 +56,11 @@ ended c = not_part (to (goal.at.Else-is_part c).After-kind_in) c.args.d (sym c.i
 pub returns-then-have-lt20 : goal.returns-then-have-lt20
 returns-then-have-lt20 c = record { safe = tt; right = λ b n y. say_wait y c.if-have-lt20.true; rests = tt }
 
-pub returns-then-h-eq6 : goal.returns-then-h-eq6
-returns-then-h-eq6 c = record { safe = omega arith; right = λ b n y. say_6_head y (have20 (goal.at.returns-then-h-eq6 c).After-header_rank-h) (ranked (goal.at.returns-then-h-eq6 c).After-header_rank-h) c.if-h-eq6.true; rests = tt }
+pub returns-then-h-eq-BYTES_LEFT : goal.returns-then-h-eq-BYTES_LEFT
+returns-then-h-eq-BYTES_LEFT c = record { safe = omega arith; right = λ b n y. say_6_head y (have20 (goal.at.returns-then-h-eq-BYTES_LEFT c).After-header_rank-h) (ranked (goal.at.returns-then-h-eq-BYTES_LEFT c).After-header_rank-h) c.if-h-eq-BYTES_LEFT.true; rests = tt }
 
 pub returns-then-h-lt12 : goal.returns-then-h-lt12
-returns-then-h-lt12 c = record { safe = omega (arith, (ranked (goal.at.returns-then-h-lt12 c).After-header_rank-h).low); right = λ b n y. say_head y (have20 (goal.at.returns-then-h-lt12 c).After-header_rank-h) (ranked (goal.at.returns-then-h-lt12 c).After-header_rank-h) c.if-h-eq6.false c.if-h-lt12.true; rests = tt }
+returns-then-h-lt12 c = record { safe = omega (arith, (ranked (goal.at.returns-then-h-lt12 c).After-header_rank-h).low); right = λ b n y. say_head y (have20 (goal.at.returns-then-h-lt12 c).After-header_rank-h) (ranked (goal.at.returns-then-h-lt12 c).After-header_rank-h) c.if-h-eq-BYTES_LEFT.false c.if-h-lt12.true; rests = tt }
 
 pub returns-then-is_one_more : goal.returns-then-is_one_more
 returns-then-is_one_more c = let g = c.is_one_more.ensures.good c.if-is_one_more.true in record { safe = omega arith; right = λ b n y. say_24 y (have20 (goal.at.returns-then-is_one_more c).After-header_rank-h) (ranked (goal.at.returns-then-is_one_more c).After-header_rank-h) c.if-h-lt12.false g.0 g.1; rests = tt }
@@ -90,4 +90,4 @@ pub returns-in-Other : goal.returns-in-Other
 returns-in-Other c = record { safe = omega arith; right = λ b n y. say_14 y (have20 (goal.at.returns-in-Other c).After-header_rank-h) (ranked (goal.at.returns-in-Other c).After-header_rank-h) (high (goal.at.returns-in-Other c).After-kind_in) (few (goal.at.returns-in-Other c).After-kind_in) (size_is (goal.at.returns-in-Other c).After-kind_in) (c.kind_in.ensures.0 (omega arith)) c.kind_in.ensures.1 (told (goal.at.returns-in-Other c).After-settle (S.Other c.in-Other.q) c.in-Other.is); rests = tt }
 
 pub returns-else-not-is_aim : goal.returns-else-not-is_aim
-returns-else-not-is_aim c = let w = inside (goal.at.returns-else-not-is_aim c).After-kind_in in let f = fewer (ranked (goal.at.returns-else-not-is_aim c).After-header_rank-h) (high (goal.at.returns-else-not-is_aim c).After-kind_in) in record { safe = (omega (arith, w), w.1, few (goal.at.returns-else-not-is_aim c).After-kind_in c.if-class-ne3.false, rw c.if-class-ne3.false at f, c.word_in-target.ensures.1, c.kind_in-in-Clear.ensures.1); right = λ b n y. go_point y (have20 (goal.at.returns-else-not-is_aim c).After-header_rank-h) (ranked (goal.at.returns-else-not-is_aim c).After-header_rank-h) (high (goal.at.returns-else-not-is_aim c).After-kind_in) (few (goal.at.returns-else-not-is_aim c).After-kind_in) (size_is (goal.at.returns-else-not-is_aim c).After-kind_in) (c.kind_in.ensures.0 (omega arith)) c.kind_in.ensures.1 (clear (goal.at.returns-else-not-is_aim c).In-Clear) (ended (goal.at.returns-else-not-is_aim c).Else-is_part) c.if-len-to.false c.if-class-ne3.false (c.is_aim.ensures.good (not-false c.is_aim.result c.if-not-is_aim.false-raw)) (c.word_in-target.ensures.0 (omega arith)) (c.kind_in-in-Clear.ensures.0 (omega arith)) c.kind_in-in-Clear.ensures.1 c.lesser.ensures.0 c.lesser.ensures.1; rests = tt }
+returns-else-not-is_aim c = let w = inside (goal.at.returns-else-not-is_aim c).After-kind_in in let f = fewer (ranked (goal.at.returns-else-not-is_aim c).After-header_rank-h) (high (goal.at.returns-else-not-is_aim c).After-kind_in) in record { safe = (omega (arith, w), w.1, few (goal.at.returns-else-not-is_aim c).After-kind_in c.if-class-ne3.false, rw c.if-class-ne3.false at f, c.word_in-target.ensures.1, c.kind_in-in-Clear.ensures.1); right = λ b n y. go_point y (have20 (goal.at.returns-else-not-is_aim c).After-header_rank-h) (ranked (goal.at.returns-else-not-is_aim c).After-header_rank-h) (high (goal.at.returns-else-not-is_aim c).After-kind_in) (few (goal.at.returns-else-not-is_aim c).After-kind_in) (size_is (goal.at.returns-else-not-is_aim c).After-kind_in) (c.kind_in.ensures.0 (omega arith)) c.kind_in.ensures.1 (clear (goal.at.returns-else-not-is_aim c).In-Clear) (ended (goal.at.returns-else-not-is_aim c).Else-is_part) c.if-len-to.false c.if-class-ne3.false (c.is_aim.ensures.good (not-false c.is_aim.result c.if-not-is_aim.false-raw)) (c.word_in-target.ensures.0 (omega arith)) (c.kind_in-in-Clear.ensures.0 (omega arith)) c.kind_in-in-Clear.ensures.1 (omega arith) (omega arith); rests = tt }

@@ -72,19 +72,19 @@ returns-in-Wait c =
     same_right c.wait.ensures.0 c.wait.ensures.1 (wait_right w c.fill-have.ensures c.ahead.ensures.0 c.ahead.ensures.1 refl (rightly (goal.at.returns-in-Wait c).After-turn T.Wait c.in-Wait.is hs b w))
 
 pub returns-in-Refuse : goal.returns-in-Refuse
-returns-in-Refuse c = let r = T.Refuse c.in-Refuse.number c.in-Refuse.place in λ hs b k. refuse_right (c.loop-v.invariant.1 hs b k) c.fill-have.ensures c.ahead.ensures.0 c.ahead.ensures.1 (told (goal.at.returns-in-Refuse c).After-turn r c.in-Refuse.is).safe (rightly (goal.at.returns-in-Refuse c).After-turn r c.in-Refuse.is hs b (c.loop-v.invariant.1 hs b k)) c.refuse.ensures.0 c.refuse.ensures.1
+returns-in-Refuse c = let r = T.Refuse c.in-Refuse.r in λ hs b k. refuse_right (c.loop-v.invariant.1 hs b k) c.fill-have.ensures c.ahead.ensures.0 c.ahead.ensures.1 (told (goal.at.returns-in-Refuse c).After-turn r c.in-Refuse.is).safe (rightly (goal.at.returns-in-Refuse c).After-turn r c.in-Refuse.is hs b (c.loop-v.invariant.1 hs b k)) c.refuse.ensures.0 c.refuse.ensures.1
 
 pub overflow_cast-k : goal.overflow_cast-k
 overflow_cast-k c = record { fits = omega (arith, eight c) }
 
 pub offset_bounds-tally-k : goal.offset_bounds-tally-k
-offset_bounds-tally-k c = omega (arith, eight c)
+offset_bounds-tally-k c = omega (arith, eight (goal.at.offset_bounds-tally-k c).In-Pass)
 
 pub bounds-tally-k : goal.bounds-tally-k
 bounds-tally-k c = omega (arith, eight (goal.at.bounds-tally-k c).In-Pass)
 
 pub offset_bounds-totals-k : goal.offset_bounds-totals-k
-offset_bounds-totals-k c = omega (arith, eight (goal.at.offset_bounds-totals-k c).In-Pass)
+offset_bounds-totals-k c = omega (arith, eight c)
 
 pub bounds-totals-k : goal.bounds-totals-k
 bounds-totals-k c = omega (arith, eight (goal.at.bounds-totals-k c).In-Pass)
@@ -104,8 +104,8 @@ run_in-run-requires c = ((safe-pass (goal.at.run_in-run-requires c).In-Pass).1, 
 pub overflow_add-passed : goal.overflow_add-passed
 overflow_add-passed c = record { fits = omega (arith, c.run_in-run.ensures.counted, c.run_in-run.ensures.inside, c.loop-v.invariant.0.small) }
 
-pub with_more-requires : goal.with_more-requires
-with_more-requires c = omega (arith, c.run_in-run.ensures.few, (safe-pass (goal.at.with_more-requires c).In-Pass).4)
+pub overflow_add-tally : goal.overflow_add-tally
+overflow_add-tally c = record { fits = omega (arith, c.run_in-run.ensures.few, (safe-pass (goal.at.overflow_add-tally c).In-Pass).4) }
 
 pub offset_bounds-tally-k-in-Pass : goal.offset_bounds-tally-k-in-Pass
 offset_bounds-tally-k-in-Pass c = omega (arith, eight (goal.at.offset_bounds-tally-k-in-Pass c).In-Pass)
@@ -124,9 +124,9 @@ loop-v-preserved-in-Pass c =
     let r = T.Pass c.in-Pass.to c.in-Pass.class c.in-Pass.due in
     let s = safe-pass (goal.at.loop-v-preserved-in-Pass c).In-Pass in
     let y = c.run_in-run.ensures in (
-      sane_pass c.loop-v.v c.loop-v.tally c.with_more.result (1 + c.run_in-run.result.count) c.loop-v.invariant.0 (omega (arith, y.counted, s.0)) y.inside s.2 s.3,
+      sane_pass c.loop-v.v c.loop-v.tally _ (1 + c.run_in-run.result.count) c.loop-v.invariant.0 (omega (arith, y.counted, s.0)) y.inside s.2 s.3,
       λ hs b q. let w = c.loop-v.invariant.1 hs b q in
-          pass_on w c.fill-have.ensures c.ahead.ensures.0 c.ahead.ensures.1 c.in-Pass.class c.with_more.ensures (omega (arith, s.4)) s.0 (rightly (goal.at.loop-v-preserved-in-Pass c).After-turn r c.in-Pass.is hs b w) (y.right b w.part),
+          pass_on w c.fill-have.ensures c.ahead.ensures.0 c.ahead.ensures.1 c.in-Pass.class refl (omega (arith, s.4)) s.0 (rightly (goal.at.loop-v-preserved-in-Pass c).After-turn r c.in-Pass.is hs b w) (y.right b w.part),
       c.loop-v.invariant.2,
     )
 
@@ -157,8 +157,8 @@ offset_bounds-kinds-n c = let s = safe-point (goal.at.offset_bounds-kinds-n c).I
 pub bounds-kinds-n : goal.bounds-kinds-n
 bounds-kinds-n c = let s = safe-point (goal.at.bounds-kinds-n c).In-Point in omega (arith, s.2)
 
-pub overflow_add-tally : goal.overflow_add-tally
-overflow_add-tally c = let s = safe-point (goal.at.overflow_add-tally c).In-Point in record { fits = omega (arith, s.2) }
+pub overflow_add-tally-in-Point : goal.overflow_add-tally-in-Point
+overflow_add-tally-in-Point c = let s = safe-point (goal.at.overflow_add-tally-in-Point c).In-Point in record { fits = omega (arith, s.2) }
 
 pub overflow_add-v-in-Point : goal.overflow_add-v-in-Point
 overflow_add-v-in-Point c = record { fits = omega (arith, c.loop-v.invariant.0.counted, c.loop-v.invariant.0.inside, c.loop-v.invariant.0.small) }

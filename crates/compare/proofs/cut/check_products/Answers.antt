@@ -1,7 +1,7 @@
 -- `compare::cut::check_products` meets its contract: the four fields, then the records. Assumes nothing.
 use mathlib.Core.Path.{sym}
-use borrow.Author.Tests.{not-true, not-false}
-use Rattle.compare.proofs.CheckLaws.{product_long, both_records, says_field, says_is, says_not}
+use Rattle.compare.proofs.CheckLaws.{product_long, both_records, says_field, says_records}
+use Rattle.std.proofs.Common.{rules}
 use Rattle.compare.proofs.cut.check_products.Goals as goal
 
 pub slice_bounds-four_agree-end : goal.slice_bounds-four_agree-end
@@ -14,15 +14,10 @@ pub four_agree-requires : goal.four_agree-requires
 four_agree-requires c = let p = c.requires in (product_long p.original, product_long p.cut)
 
 pub returns-then-not-four_agree : goal.returns-then-not-four_agree
-returns-then-not-four_agree c = says_field c.requires (c.four_agree.ensures.wrong (not-true c.four_agree.result c.if-not-four_agree.true-raw))
+returns-then-not-four_agree c = says_field c.requires (c.four_agree.ensures.wrong (search rules))
 
 pub compare_records-requires : goal.compare_records-requires
 compare_records-requires c = both_records c.requires
 
-pub returns-in-Alike : goal.returns-in-Alike
-returns-in-Alike c =
-    says_is c.requires (c.four_agree.ensures.right (not-false c.four_agree.result c.if-not-four_agree.false-raw)) c.compare_records.result c.compare_records.ensures c.in-Alike.is
-
-pub returns-in-Unlike : goal.returns-in-Unlike
-returns-in-Unlike c =
-    says_not c.requires (c.four_agree.ensures.right (not-false c.four_agree.result c.if-not-four_agree.false-raw)) c.compare_records.result c.compare_records.ensures _ c.in-Unlike.is
+pub returns : goal.returns
+returns c = says_records c.requires (c.four_agree.ensures.right (search rules)) c.compare_records.result c.compare_records.ensures

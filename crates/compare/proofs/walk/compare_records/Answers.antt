@@ -1,11 +1,9 @@
 -- `compare::walk::compare_records` meets its contract: what is left says the same as the whole. Assumes nothing.
-use Prim.Native.Nat.{◌+◌, ◌≤◌}
 use native.Mathlib.Omega.{arith}
 use mathlib.Core.Path.{◌≡◌, ◌∙◌}
-use lib.ListN.{length}
 use Rattle.record.proofs.HeaderLaws.{size_there_lem}
 use Rattle.demands.specs.Product.{size}
-use Rattle.compare.proofs.StepLaws.{turned_at, compare_first, compare_stands, compare_least, compare_on, compare_stop, compare_missing, compare_alike}
+use Rattle.compare.proofs.StepLaws.{compare_first, compare_stands, compare_least, compare_on, compare_missing, compare_alike}
 use Rattle.compare.proofs.walk.compare_records.Goals as goal
 use Rattle.compare.proofs.walk.compare_records.Goals.{After-size_at-size}
 
@@ -19,29 +17,11 @@ size_is c =
 pub turn-requires : goal.turn-requires
 turn-requires c = record { small = c.requires.small; left = c.loop-at.invariant.left; inside = c.loop-at-test.true; sized = size_is c }
 
-pub returns-in-Unmatched : goal.returns-in-Unmatched
-returns-in-Unmatched c =
-    let l = c.loop-at in
-    let a = c.args in
-    compare_stop l.invariant c.size_at-size.result (turned_at a.original.now l.fixed l.mdr a.cut.now l.at c.size_at-size.result c.in-Unmatched.is c.turn.ensures)
-
-most : (z : After-size_at-size) → z.loop-at.at + z.size_at-size.result ≤ length z.args.cut.now
-most z = omega (arith, size_is z, (compare_stands z.loop-at.invariant z.loop-at-test.true).most)
-
-pub overflow_add-at : goal.overflow_add-at
-overflow_add-at c = omega (arith, most (goal.at.overflow_add-at c).After-size_at-size, c.requires.short)
-
 pub loop-at-smaller : goal.loop-at-smaller
-loop-at-smaller c = omega (arith, most (goal.at.loop-at-smaller c).After-size_at-size, size_is (goal.at.loop-at-smaller c).After-size_at-size, compare_least c.loop-at.invariant c.loop-at-test.true)
+loop-at-smaller c = omega (arith, size_is (goal.at.loop-at-smaller c).After-size_at-size, compare_least c.loop-at.invariant c.loop-at-test.true, c.loop-at-test.true)
 
 pub loop-at-preserved : goal.loop-at-preserved
-loop-at-preserved c =
-    let l = c.loop-at in
-    let a = c.args in
-    compare_on l.invariant c.size_at-size.result _ _ (turned_at a.original.now l.fixed l.mdr a.cut.now l.at c.size_at-size.result c.in-Go.is c.turn.ensures)
-
-pub next_fixed-requires : goal.next_fixed-requires
-next_fixed-requires c = let l = c.loop-at.invariant.left in record { small = c.requires.small; records = l.fs; walk = l.fixed }
+loop-at-preserved c = compare_on c.loop-at.invariant _ _ c.in-Some.ensures
 
 pub returns-then-next_fixed-original : goal.returns-then-next_fixed-original
 returns-then-next_fixed-original c = compare_missing c.loop-at.invariant c.loop-at-test.false c.next_fixed.result c.next_fixed.ensures c.if-next_fixed-original.true

@@ -5,7 +5,7 @@ use Rattle.compare.specs.Walking.{Comparing}
 use Rattle.compare.proofs.walk.compare_records.Given as goal
 
 abbrev pub invariant-loop-at : goal.invariant-loop-at
-invariant-loop-at l = Comparing l.original l.fixed l.mdr l.cut l.at
+invariant-loop-at l = Comparing l.original l.places l.cut l.at
 
 abbrev pub decreases-loop-at : goal.decreases-loop-at
 decreases-loop-at l = length l.cut - l.at

@@ -4,7 +4,7 @@ use native.Mathlib.Omega.{arith}
 use mathlib.Core.Path.{◌≡◌, sym, subst, ◌∙◌}
 use Rattle.record.proofs.HeaderLaws.{size_there_lem}
 use Rattle.demands.specs.Product.{size}
-use Rattle.compare.proofs.StepLaws.{Here, here, Skipping, skip_first, skip_on, skip_found, skip_end}
+use Rattle.compare.proofs.StepLaws.{Here, here, Skipping, skip_first, skip_on}
 use Rattle.compare.proofs.walk.next_fixed.Goals as goal
 use Rattle.compare.proofs.walk.next_fixed.Goals.{In-loop-at, After-size_at-at}
 
@@ -18,9 +18,6 @@ size_is : (c : After-size_at-at) → c.size_at-at.result ≡ size c.args.origina
 size_is c =
     c.size_at-at.ensures ∙ size_there_lem c.args.original.now c.loop-at.at (omega (arith, (one (goal.at.After-size_at-at c).In-loop-at).stands.header))
 
-pub returns-then-is_fixed : goal.returns-then-is_fixed
-returns-then-is_fixed c = skip_found c.loop-at.invariant (sym c.is_fixed.ensures ∙ c.if-is_fixed.true)
-
 pub overflow_add-at : goal.overflow_add-at
 overflow_add-at c = omega (arith, size_is c, (one (goal.at.overflow_add-at c).In-loop-at).stands.most, c.loop-at.invariant.small)
 
@@ -30,6 +27,3 @@ loop-at-smaller c = omega (arith, size_is c, (one (goal.at.loop-at-smaller c).In
 pub loop-at-preserved : goal.loop-at-preserved
 loop-at-preserved c =
     subst (λ (n : ℕ). Skipping c.args.original.now c.args.from (c.loop-at.at + n)) (sym (size_is c)) (skip_on c.loop-at.invariant c.loop-at-test.true (sym c.is_fixed.ensures ∙ c.if-is_fixed.false))
-
-pub returns : goal.returns
-returns c = skip_end c.loop-at.invariant c.loop-at-test.false

@@ -4,7 +4,7 @@ use native.Mathlib.Omega.{arith}
 use mathlib.Core.Path.{◌≡◌, sym, subst, ◌∙◌}
 use Rattle.record.proofs.HeaderLaws.{size_there_lem}
 use Rattle.demands.specs.Product.{size}
-use Rattle.compare.proofs.StepLaws.{Searching, search_first, search_stands, search_least, search_on, search_long, search_found, search_end}
+use Rattle.compare.proofs.StepLaws.{Searching, search_first, search_stands, search_least, search_on, search_found, search_end}
 use Rattle.compare.proofs.walk.take_earliest.Goals as goal
 use Rattle.compare.proofs.walk.take_earliest.Goals.{After-size_at-next}
 
@@ -13,11 +13,6 @@ loop-next-init c = search_first c.requires
 
 pub is_record-requires : goal.is_record-requires
 is_record-requires c = (search_stands c.loop-next.invariant c.loop-next-test.true, c.loop-next.invariant.seeking.come)
-
-pub overflow_add-result : goal.overflow_add-result
-overflow_add-result c =
-    let v = c.loop-next.invariant in
-    omega (arith, v.seeking.fixing.small, (search_stands v c.loop-next-test.true).most, search_long v c.loop-next-test.true (c.is_record.ensures.right c.if-is_record.true))
 
 pub returns-then-is_record : goal.returns-then-is_record
 returns-then-is_record c = search_found c.loop-next.invariant c.loop-next-test.true (c.is_record.ensures.right c.if-is_record.true)

@@ -1,4 +1,5 @@
 -- `finish::fill::fill_some` meets its contract: the known stretch where it begins here, or what is read before it. Assumes nothing.
+use Rattle.std.proofs.Common.{arith}
 use Prim.Native.Nat.{ℕ}
 use mathlib.Core.Path.{sym, subst}
 use Rattle.judge.specs.Stretch.{Even}
@@ -10,8 +11,8 @@ fill_even-requires c =
     record {
       onward = c.requires.0;
       some = c.if-at-end.true;
-      most = c.lesser-end.ensures.1;
+      most = omega arith;
       stop = v.end;
       even = subst (λ (i : ℕ). Even c.args.s.now v.size i v.end) (sym c.if-at-even.true) c.requires.1;
-      within = c.lesser-end.ensures.0;
+      within = omega arith;
     }

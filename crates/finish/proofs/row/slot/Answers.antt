@@ -22,4 +22,4 @@ pub returns : goal.returns
 returns c =
     let a = c.args in
     slot_is a.class a.group a.subclass _ c.requires.0 c.requires.1 c.requires.2 (omega arith)
-    (omega (arith, c.column.ensures, c.wide.ensures, c.wide-2.ensures))
+    (omega (arith, c.column.ensures))

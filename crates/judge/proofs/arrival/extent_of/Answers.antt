@@ -14,18 +14,17 @@ opened c = subst (Judged c.args.s.now) {y = Waiting c.in-Waiting.count c.in-Wait
 pub returns-then-count-eq0 : goal.returns-then-count-eq0
 returns-then-count-eq0 c = let o = opened (goal.at.returns-then-count-eq0 c).In-Waiting in (o.clean, inl (none_yet o c.if-count-eq0.true))
 
-pub size_of-requires : goal.size_of-requires
-size_of-requires c = let o = opened (goal.at.size_of-requires c).In-Waiting in clean_begun o.clean (some_come o c.if-count-eq0.false)
-
-pub returns-then-s-size_of : goal.returns-then-s-size_of
-returns-then-s-size_of c =
-    ((opened (goal.at.returns-then-s-size_of c).In-Waiting).clean, inr (omega (arith, c.if-s-size_of.true, c.size_of.ensures.0)))
+pub returns-then-s-declared_size : goal.returns-then-s-declared_size
+returns-then-s-declared_size c =
+    let o = opened (goal.at.returns-then-s-declared_size c).In-Waiting in
+    (o.clean, inr (omega (arith, c.if-s-declared_size.true, c.declared_size.ensures.1 (clean_begun o.clean (some_come o c.if-count-eq0.false)))))
 
 pub returns-in-Refused : goal.returns-in-Refused
 returns-in-Refused c = subst (Judged c.args.s.now) {y = Refused c.in-Refused.r} c.in-Refused.is c.requires
 
-pub returns-else-s-size_of : goal.returns-else-s-size_of
-returns-else-s-size_of c =
-    let o = opened (goal.at.returns-else-s-size_of c).In-Waiting in
-    let k : Complete c.args.s.now = record { clean = o.clean; header = some_come o c.if-count-eq0.false; come = omega (arith, c.if-s-size_of.false, c.size_of.ensures.0) } in
+pub returns-else-s-declared_size : goal.returns-else-s-declared_size
+returns-else-s-declared_size c =
+    let o = opened (goal.at.returns-else-s-declared_size c).In-Waiting in
+    let h = some_come o c.if-count-eq0.false in
+    let k : Complete c.args.s.now = record { clean = o.clean; header = h; come = omega (arith, c.if-s-declared_size.false, c.declared_size.ensures.1 (clean_begun o.clean h)) } in
     (k, covered o k)

@@ -11,15 +11,17 @@ use Rattle.judge.specs.Stretch.{Even, over, NotesAre, no_notes}
 use Rattle.judge.specs.Profile as P
 use Rattle.judge.specs.declared.stretch.Notes.{Notes}
 use Rattle.judge.specs.declared.pointers.Pointers.{Pointers}
-use Rattle.judge.specs.declared.arrival.Turned.{Turned}
-use Rattle.judge.specs.declared.arrival.Turned.TheVariants.{Stop, Go}
+use Rattle.judge.specs.declared.arrival.Arrival.{Arrival}
+use Rattle.judge.specs.declared.arrival.Passed.{Passed}
+use Rattle.std.specs.declared.ops.ControlFlow.{ControlFlow}
+use Rattle.std.specs.declared.ops.ControlFlow.TheVariants.{Break, Continue}
 use Rattle.judge.proofs.JudgeLaws.{turn_first}
 use Rattle.judge.proofs.TurnLaws.{kept_first, over_at}
 use Rattle.judge.proofs.RunLaws.{run_le, run_within, run_tally, After, run_on}
 use Rattle.judge.proofs.StretchLaws.{run_even, turn_even}
 use Rattle.judge.proofs.EaseLaws.{later, none_held, due_at, kept_eased}
 use Rattle.judge.proofs.arrival.walk_on.Goals as goal
-use Rattle.judge.proofs.arrival.walk_on.Goals.{At-loop-at, After-ease-hold, After-turn, In-Go, After-run_of-run, After-noted-notes}
+use Rattle.judge.proofs.arrival.walk_on.Goals.{At-loop-at, After-ease-hold, After-turn, In-Continue, After-run_of-run, After-noted-notes}
 
 abbrev a : At-loop-at → List ℕ
 a c = c.args.s.now
@@ -39,45 +41,45 @@ x c = site c.loop-at.count c.loop-at.at c.loop-at.prev c.loop-at.tally
 eased : (c : After-ease-hold) → Kept (a (goal.at.After-ease-hold c).At-loop-at) c.loop-at.at (due_at c.loop-at.w c.ease-hold.result.due)
 eased c = kept_eased c.loop-at.invariant.1 c.ease-hold.ensures.calm
 
-told : (c : After-turn) (r : Turned) → c.turn.result ≡ r → TurnedIs (a (goal.at.After-turn c).At-loop-at) (x (goal.at.After-turn c).At-loop-at) r
+told : (c : After-turn) (r : ControlFlow Arrival Passed) → c.turn.result ≡ r → TurnedIs (a (goal.at.After-turn c).At-loop-at) (x (goal.at.After-turn c).At-loop-at) r
 told c r e = subst (TurnedIs (a (goal.at.After-turn c).At-loop-at) (x (goal.at.After-turn c).At-loop-at)) e c.turn.ensures
 
 -- where the turn goes on: the next start, the class and the pointers
-abbrev to : In-Go → ℕ
-to c = c.in-Go.to
+abbrev to : In-Continue → ℕ
+to c = c.in-Continue.passed.to
 
-abbrev class : In-Go → ℕ
-class c = c.in-Go.class
+abbrev class : In-Continue → ℕ
+class c = c.in-Continue.passed.class
 
-abbrev pointers : In-Go → Pointers
-pointers c = c.in-Go.pointers
+abbrev pointers : In-Continue → Pointers
+pointers c = c.in-Continue.passed.pointers
 
-gone : (c : In-Go) → Gone (a (goal.at.In-Go c).At-loop-at) (x (goal.at.In-Go c).At-loop-at) (to c) (class c) (pointers c)
-gone c = told (goal.at.In-Go c).After-turn (Go (to c) (class c) (pointers c)) c.in-Go.is
+gone : (c : In-Continue) → Gone (a (goal.at.In-Continue c).At-loop-at) (x (goal.at.In-Continue c).At-loop-at) (to c) (class c) (pointers c)
+gone c = told (goal.at.In-Continue c).After-turn (Continue c.in-Continue.passed) c.in-Continue.is
 
-abbrev n : In-Go → ℕ
+abbrev n : In-Continue → ℕ
 n c = get_or c.loop-at.tally (class c) 0 + 1
 
-below : (c : In-Go) → class c < length c.loop-at.tally
+below : (c : In-Continue) → class c < length c.loop-at.tally
 below c = omega (arith, (gone c).eight, c.loop-at.invariant.0.nine)
 
-reached : (c : In-Go) → n c ≤ get_or (ts (goal.at.In-Go c).At-loop-at) (class c) 0
-reached c = omega (arith, (gone c).fewer, (walking (goal.at.In-Go c).At-loop-at).totals.same (class c) (gone c).eight)
+reached : (c : In-Continue) → n c ≤ get_or (ts (goal.at.In-Continue c).At-loop-at) (class c) 0
+reached c = omega (arith, (gone c).fewer, (walking (goal.at.In-Continue c).At-loop-at).totals.same (class c) (gone c).eight)
 
-ran : (c : After-run_of-run) → After (a (goal.at.After-run_of-run c).At-loop-at) (c.loop-at.count + 1) (class (goal.at.After-run_of-run c).In-Go) (one_more c.loop-at.tally (class (goal.at.After-run_of-run c).In-Go)) (pointers (goal.at.After-run_of-run c).In-Go) c.run_of-run.result.count c.run_of-run.result.end
+ran : (c : After-run_of-run) → After (a (goal.at.After-run_of-run c).At-loop-at) (c.loop-at.count + 1) (class (goal.at.After-run_of-run c).In-Continue) (one_more c.loop-at.tally (class (goal.at.After-run_of-run c).In-Continue)) (pointers (goal.at.After-run_of-run c).In-Continue) c.run_of-run.result.count c.run_of-run.result.end
 ran c =
     let y = walking (goal.at.After-run_of-run c).At-loop-at in
-    run_on y.d_is y.small y.totals (gone (goal.at.After-run_of-run c).In-Go).turn (gone (goal.at.After-run_of-run c).In-Go).kept (omega (arith, reached (goal.at.After-run_of-run c).In-Go, c.lesser.ensures.0, get_or-set_same c.loop-at.tally (class (goal.at.After-run_of-run c).In-Go) (n (goal.at.After-run_of-run c).In-Go) 0 (below (goal.at.After-run_of-run c).In-Go))) (c.run_of-run.ensures c.loop-at.invariant.2)
+    run_on y.d_is y.small y.totals (gone (goal.at.After-run_of-run c).In-Continue).turn (gone (goal.at.After-run_of-run c).In-Continue).kept (omega (arith, reached (goal.at.After-run_of-run c).In-Continue, get_or-set_same c.loop-at.tally (class (goal.at.After-run_of-run c).In-Continue) (n (goal.at.After-run_of-run c).In-Continue) 0 (below (goal.at.After-run_of-run c).In-Continue))) (c.run_of-run.ensures c.loop-at.invariant.2)
 
-counted : (c : After-run_of-run) → (to (goal.at.After-run_of-run c).In-Go + c.run_of-run.result.count ≤ c.run_of-run.result.end) × (c.run_of-run.result.end ≤ d (goal.at.After-run_of-run c).At-loop-at) × (n (goal.at.After-run_of-run c).In-Go + c.run_of-run.result.count ≤ get_or (ts (goal.at.After-run_of-run c).At-loop-at) (class (goal.at.After-run_of-run c).In-Go) 0)
+counted : (c : After-run_of-run) → (to (goal.at.After-run_of-run c).In-Continue + c.run_of-run.result.count ≤ c.run_of-run.result.end) × (c.run_of-run.result.end ≤ d (goal.at.After-run_of-run c).At-loop-at) × (n (goal.at.After-run_of-run c).In-Continue + c.run_of-run.result.count ≤ get_or (ts (goal.at.After-run_of-run c).At-loop-at) (class (goal.at.After-run_of-run c).In-Continue) 0)
 counted c =
     let r = c.run_of-run.ensures c.loop-at.invariant.2 in
     let l = run_le r in
-    (omega (arith, l.0), run_within r (omega (arith, (gone (goal.at.After-run_of-run c).In-Go).turn.inside, walking (goal.at.After-run_of-run c).At-loop-at)), omega (arith, l.1, c.lesser.ensures.0, reached (goal.at.After-run_of-run c).In-Go))
+    (omega (arith, l.0), run_within r (omega (arith, (gone (goal.at.After-run_of-run c).In-Continue).turn.inside, walking (goal.at.After-run_of-run c).At-loop-at)), omega (arith, l.1, reached (goal.at.After-run_of-run c).In-Continue))
 
-evenly : (f : After-run_of-run) → Even (a (goal.at.After-run_of-run f).At-loop-at) (to (goal.at.After-run_of-run f).In-Go - f.loop-at.at) f.loop-at.at f.run_of-run.result.end
+evenly : (f : After-run_of-run) → Even (a (goal.at.After-run_of-run f).At-loop-at) (to (goal.at.After-run_of-run f).In-Continue - f.loop-at.at) f.loop-at.at f.run_of-run.result.end
 evenly f =
-    let g = gone (goal.at.After-run_of-run f).In-Go in
+    let g = gone (goal.at.After-run_of-run f).In-Continue in
     turn_even (omega (arith, g.to_is)) (omega (arith, g.further)) (run_even (f.run_of-run.ensures f.loop-at.invariant.2))
 
 grows : (c : After-noted-notes) → NotesAre (a (goal.at.After-noted-notes c).At-loop-at) c.noted-notes.result
@@ -114,52 +116,49 @@ turn-requires c =
     let y = walking (goal.at.turn-requires c).At-loop-at in
     (record { d_is = y.d_is; small = y.small; room = c.loop-at-test.true; totals = y.totals; turn = c.loop-at.invariant.0; kept = eased (goal.at.turn-requires c).After-ease-hold }, c.loop-at.invariant.2)
 
-pub returns-in-Stop : goal.returns-in-Stop
-returns-in-Stop c =
+pub returns-in-Break : goal.returns-in-Break
+returns-in-Break c =
     let i = c.loop-at.invariant in
-    record { said = told (goal.at.returns-in-Stop c).After-turn (Stop c.in-Stop.answer) c.in-Stop.is; even = i.5.longest; meets = i.7 }
+    record { said = told (goal.at.returns-in-Break c).After-turn (Break c.in-Break.answer) c.in-Break.is; even = i.5.longest; meets = i.7 }
 
 pub overflow_cast-k : goal.overflow_cast-k
-overflow_cast-k c = record { fits = omega (arith, (told (goal.at.overflow_cast-k c).After-turn (Go c.in-Go.to c.in-Go.class c.in-Go.pointers) c.in-Go.is).eight) }
+overflow_cast-k c = record { fits = omega (arith, (told (goal.at.overflow_cast-k c).After-turn (Continue c.in-Continue.passed) c.in-Continue.is).eight) }
 
 pub offset_bounds-tally-k : goal.offset_bounds-tally-k
-offset_bounds-tally-k c = omega (arith, (told (goal.at.offset_bounds-tally-k c).After-turn (Go c.in-Go.to c.in-Go.class c.in-Go.pointers) c.in-Go.is).eight)
+offset_bounds-tally-k c = omega (arith, (told (goal.at.offset_bounds-tally-k c).After-turn (Continue c.in-Continue.passed) c.in-Continue.is).eight)
 
 pub bounds-tally-k : goal.bounds-tally-k
-bounds-tally-k c = omega (arith, (told (goal.at.bounds-tally-k c).After-turn (Go c.in-Go.to c.in-Go.class c.in-Go.pointers) c.in-Go.is).eight)
+bounds-tally-k c = omega (arith, (told (goal.at.bounds-tally-k c).After-turn (Continue c.in-Continue.passed) c.in-Continue.is).eight)
 
 pub overflow_add-n : goal.overflow_add-n
-overflow_add-n c = record { fits = omega (arith, (gone c).fewer, (walking (goal.at.overflow_add-n c).At-loop-at).totals.small (class c) (gone c).eight) }
+overflow_add-n c = let i = (goal.at.overflow_add-n c).In-Continue in record { fits = omega (arith, (gone i).fewer, (walking (goal.at.overflow_add-n c).At-loop-at).totals.small (class i) (gone i).eight) }
 
-pub overflow_sub-to : goal.overflow_sub-to
-overflow_sub-to c = omega (arith, (gone (goal.at.overflow_sub-to c).In-Go).further)
+pub overflow_sub-size : goal.overflow_sub-size
+overflow_sub-size c = omega (arith, (gone (goal.at.overflow_sub-size c).In-Continue).further)
 
 pub offset_bounds-totals-k : goal.offset_bounds-totals-k
-offset_bounds-totals-k c = omega (arith, (gone (goal.at.offset_bounds-totals-k c).In-Go).eight)
+offset_bounds-totals-k c = omega (arith, (gone (goal.at.offset_bounds-totals-k c).In-Continue).eight)
 
 pub bounds-totals-k : goal.bounds-totals-k
-bounds-totals-k c = omega (arith, (gone (goal.at.bounds-totals-k c).In-Go).eight, (walking (goal.at.bounds-totals-k c).At-loop-at).totals.nine)
+bounds-totals-k c = omega (arith, (gone (goal.at.bounds-totals-k c).In-Continue).eight, (walking (goal.at.bounds-totals-k c).At-loop-at).totals.nine)
 
 pub overflow_sub-totals : goal.overflow_sub-totals
-overflow_sub-totals c = reached (goal.at.overflow_sub-totals c).In-Go
+overflow_sub-totals c = reached (goal.at.overflow_sub-totals c).In-Continue
 
 pub overflow_add-tally : goal.overflow_add-tally
-overflow_add-tally c = record { fits = omega (arith, (counted (goal.at.overflow_add-tally c).After-run_of-run).2, (walking (goal.at.overflow_add-tally c).At-loop-at).totals.same (class (goal.at.overflow_add-tally c).In-Go) (gone (goal.at.overflow_add-tally c).In-Go).eight, (walking (goal.at.overflow_add-tally c).At-loop-at).totals.small (class (goal.at.overflow_add-tally c).In-Go) (gone (goal.at.overflow_add-tally c).In-Go).eight) }
+overflow_add-tally c = record { fits = omega (arith, (counted (goal.at.overflow_add-tally c).After-run_of-run).2, (walking (goal.at.overflow_add-tally c).At-loop-at).totals.same (class (goal.at.overflow_add-tally c).In-Continue) (gone (goal.at.overflow_add-tally c).In-Continue).eight, (walking (goal.at.overflow_add-tally c).At-loop-at).totals.small (class (goal.at.overflow_add-tally c).In-Continue) (gone (goal.at.overflow_add-tally c).In-Continue).eight) }
 
-pub offset_bounds-tally-k-in-Go : goal.offset_bounds-tally-k-in-Go
-offset_bounds-tally-k-in-Go c = omega (arith, (gone (goal.at.offset_bounds-tally-k-in-Go c).In-Go).eight)
+pub offset_bounds-tally-k-in-Continue : goal.offset_bounds-tally-k-in-Continue
+offset_bounds-tally-k-in-Continue c = omega (arith, (gone (goal.at.offset_bounds-tally-k-in-Continue c).In-Continue).eight)
 
-pub bounds-tally-k-in-Go : goal.bounds-tally-k-in-Go
-bounds-tally-k-in-Go c = omega (arith, (gone (goal.at.bounds-tally-k-in-Go c).In-Go).eight)
+pub bounds-tally-k-in-Continue : goal.bounds-tally-k-in-Continue
+bounds-tally-k-in-Continue c = omega (arith, (gone (goal.at.bounds-tally-k-in-Continue c).In-Continue).eight)
 
 pub overflow_add-count : goal.overflow_add-count
 overflow_add-count c = record { fits = omega (arith, counted (goal.at.overflow_add-count c).After-run_of-run, (walking (goal.at.overflow_add-count c).At-loop-at).small) }
 
-pub overflow_add-count-in-Go : goal.overflow_add-count-in-Go
-overflow_add-count-in-Go c = let i = c.loop-at.invariant.0 in record { fits = omega (arith, counted (goal.at.overflow_add-count-in-Go c).After-run_of-run, (gone (goal.at.overflow_add-count-in-Go c).In-Go).further, i.counted, (walking (goal.at.overflow_add-count-in-Go c).At-loop-at).small) }
-
-pub overflow_sub-to-in-Go : goal.overflow_sub-to-in-Go
-overflow_sub-to-in-Go c = omega (arith, (gone (goal.at.overflow_sub-to-in-Go c).In-Go).further)
+pub overflow_add-count-in-Continue : goal.overflow_add-count-in-Continue
+overflow_add-count-in-Continue c = let i = c.loop-at.invariant.0 in record { fits = omega (arith, counted (goal.at.overflow_add-count-in-Continue c).After-run_of-run, (gone (goal.at.overflow_add-count-in-Continue c).In-Continue).further, i.counted, (walking (goal.at.overflow_add-count-in-Continue c).At-loop-at).small) }
 
 pub overflow_add-run : goal.overflow_add-run
 overflow_add-run c = record { fits = omega (arith, counted (goal.at.overflow_add-run c).After-run_of-run, (walking (goal.at.overflow_add-run c).At-loop-at).small) }
@@ -167,28 +166,25 @@ overflow_add-run c = record { fits = omega (arith, counted (goal.at.overflow_add
 pub noted-notes-requires : goal.noted-notes-requires
 noted-notes-requires c = let i = c.loop-at.invariant in omega (arith, i.6, counted (goal.at.noted-notes-requires c).After-run_of-run, i.0.inside, walking (goal.at.noted-notes-requires c).At-loop-at)
 
-pub overflow_sub-to-in-Go-2 : goal.overflow_sub-to-in-Go-2
-overflow_sub-to-in-Go-2 c = omega (arith, (gone (goal.at.overflow_sub-to-in-Go-2 c).In-Go).further)
-
 pub met_on-met-requires : goal.met_on-met-requires
 met_on-met-requires c =
-    (c.loop-at.invariant.7, record { even = evenly (goal.at.met_on-met-requires c).After-run_of-run; least = omega (arith, (gone (goal.at.met_on-met-requires c).In-Go).further); come = (ran (goal.at.met_on-met-requires c).After-run_of-run).0.come })
+    (c.loop-at.invariant.7, record { even = evenly (goal.at.met_on-met-requires c).After-run_of-run; least = omega (arith, (gone (goal.at.met_on-met-requires c).In-Continue).further); come = (ran (goal.at.met_on-met-requires c).After-run_of-run).0.come })
 
 pub loop-at-smaller : goal.loop-at-smaller
-loop-at-smaller c = omega (arith, (counted (goal.at.loop-at-smaller c).After-run_of-run).0, (gone (goal.at.loop-at-smaller c).In-Go).further, c.loop-at-test.true)
+loop-at-smaller c = omega (arith, (counted (goal.at.loop-at-smaller c).After-run_of-run).0, (gone (goal.at.loop-at-smaller c).In-Continue).further, c.loop-at-test.true)
 
 pub loop-at-preserved : goal.loop-at-preserved
 loop-at-preserved c =
     let r = c.run_of-run.result in
     let i : c.loop-at.count + (1 + r.count) ≡ c.loop-at.count + 1 + r.count = omega arith in
     let v = c.loop-at.invariant in (
-      rw (i, ← run_tally c.loop-at.tally (class (goal.at.loop-at-preserved c).In-Go) r.count (below (goal.at.loop-at-preserved c).In-Go)) (ran (goal.at.loop-at-preserved c).After-run_of-run).0,
+      rw (i, ← run_tally c.loop-at.tally (class (goal.at.loop-at-preserved c).In-Continue) r.count (below (goal.at.loop-at-preserved c).In-Continue)) (ran (goal.at.loop-at-preserved c).After-run_of-run).0,
       (ran (goal.at.loop-at-preserved c).After-run_of-run).1,
       v.2,
-      later {i = to (goal.at.loop-at-preserved c).In-Go} (omega (arith, (counted (goal.at.loop-at-preserved c).After-run_of-run).0)) (rw (gone (goal.at.loop-at-preserved c).In-Go).to_is c.ease-hold.ensures.hold),
+      later {i = to (goal.at.loop-at-preserved c).In-Continue} (omega (arith, (counted (goal.at.loop-at-preserved c).After-run_of-run).0)) (rw (gone (goal.at.loop-at-preserved c).In-Continue).to_is c.ease-hold.ensures.hold),
       c.ease-hold.ensures.same ∙ v.4,
       grows (goal.at.loop-at-preserved c).After-noted-notes,
-      omega (arith, c.noted-notes.ensures.counted, v.6, (counted (goal.at.loop-at-preserved c).After-run_of-run).0, (gone (goal.at.loop-at-preserved c).In-Go).further),
+      omega (arith, c.noted-notes.ensures.counted, v.6, (counted (goal.at.loop-at-preserved c).After-run_of-run).0, (gone (goal.at.loop-at-preserved c).In-Continue).further),
       c.met_on-met.ensures,
     )
 

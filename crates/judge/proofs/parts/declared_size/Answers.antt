@@ -1,4 +1,4 @@
--- `judge::parts::declared_size` meets its contract, as the walk's own `size_of` does. Assumes nothing.
+-- `judge::parts::declared_size` meets its contract: of a fine main header its field is a number of 3,307 to 2,147,483,647. Assumes nothing.
 use Rattle.judge.proofs.CountLaws.{size_said}
 use Rattle.judge.proofs.parts.declared_size.Goals as goal
 

@@ -1,6 +1,6 @@
 -- `judge::pending::refill` meets its contract: nothing is held, or what was gathered, in order. Assumes nothing.
-use Rattle.std.proofs.Common.{◌∙◌, le_refl, arith}
-use borrow.Author.Tests.{not-false}
+use Rattle.std.proofs.Common.{le_refl, arith}
+use Rattle.std.proofs.lemmas.List.Sorted.{IsNonDecreasingBy-from_sort}
 use Rattle.judge.proofs.ScanLaws.{scan_narrow}
 use Rattle.judge.proofs.EaseLaws.{ready_none, ready_filled}
 use Rattle.judge.proofs.pending.refill.Goals as goal
@@ -14,8 +14,6 @@ gather-count-requires c = scan_narrow (le_refl _) c.edge_of-edge.ensures c.requi
 pub returns-then-held-count : goal.returns-then-held-count
 returns-then-held-count c = ready_none c.nothing_held.ensures c.gather-count.ensures.same
 
-pub returns-then-not-sort : goal.returns-then-not-sort
-returns-then-not-sort c = ready_none c.nothing_held-then-not-sort.ensures (c.sort.ensures.0.same ∙ c.gather-count.ensures.same)
-
 pub returns : goal.returns
-returns c = ready_filled c.gather-count.ensures c.if-held-count.false c.sort.ensures.0 (c.sort.ensures.1 (not-false c.sort.result c.if-not-sort.false-raw))
+returns c =
+    ready_filled c.gather-count.ensures c.if-held-count.false c.sort_unstable.ensures.permutation (IsNonDecreasingBy-from_sort (λ x. x) _ c.sort_unstable.ensures.sorted)

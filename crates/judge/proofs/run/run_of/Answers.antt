@@ -4,7 +4,7 @@ use borrow.Author.Tests.{not-false}
 use Rattle.judge.specs.Run.{Liking, none, more}
 use Rattle.judge.proofs.run.run_of.Invariants.{Before}
 use Rattle.judge.proofs.run.run_of.Goals as goal
-use Rattle.judge.proofs.run.run_of.Goals.{Else-not-is_run, After-lesser-limit}
+use Rattle.judge.proofs.run.run_of.Goals.{Else-not-is_run, After-min-limit}
 
 liked : (c : Else-not-is_run) → Liking c.args.class c.args.size × (20 ≤ c.args.d)
 liked c = c.is_run.ensures (not-false c.is_run.result c.if-not-is_run.false-raw)
@@ -12,40 +12,18 @@ liked c = c.is_run.ensures (not-false c.is_run.result c.if-not-is_run.false-raw)
 pub returns-then-not-is_run : goal.returns-then-not-is_run
 returns-then-not-is_run c = λ _. none
 
-pub overflow_sub-d : goal.overflow_sub-d
-overflow_sub-d c = omega (arith, (liked (goal.at.overflow_sub-d c).Else-not-is_run).1)
-
 pub returns-then-not-is_next : goal.returns-then-not-is_next
 returns-then-not-is_next c = λ _. none
 
 -- up to the limit all has come
-limit-come : (c : After-lesser-limit) → Before (length c.args.s.now) c.args.due c.args.d c.lesser-limit.result
+limit-come : (c : After-min-limit) → Before (length c.args.s.now) c.args.due c.args.d c.min-limit.result
 limit-come c =
-    let m = c.lesser-limit.ensures in
-    let l = c.lesser.ensures in
-    record { come = omega (arith, m.0, l.1); due-after = omega (arith, m.0, l.0); left = omega (arith, m.1, (liked (goal.at.After-lesser-limit c).Else-not-is_run).1) }
-
-pub is_next-requires : goal.is_next-requires
-is_next-requires c = ((liked (goal.at.is_next-requires c).Else-not-is_run).0.least, (limit-come c).come)
+    record { come = omega arith; due-after = omega arith; left = omega (arith, (liked (goal.at.After-min-limit c).Else-not-is_run).1) }
 
 pub loop-count-init : goal.loop-count-init
 loop-count-init c =
     let n = c.is_next.ensures (not-false c.is_next.result c.if-not-is_next.false-raw) in
-    (omega (arith, n), omega (arith, n), limit-come (goal.at.loop-count-init c).After-lesser-limit, (liked (goal.at.loop-count-init c).Else-not-is_run).0, λ _. none)
-
-pub overflow_add-next : goal.overflow_add-next
-overflow_add-next c = let i = c.loop-count.invariant in record { fits = omega (arith, i.0, i.1, i.2.come, c.well_formed) }
-
-pub is_like-requires : goal.is_like-requires
-is_like-requires c =
-    let i = c.loop-count.invariant in
-    (i.3, omega (arith, c.if-limit-next.false, i.2.come, i.3.least))
-
-pub overflow_add-count : goal.overflow_add-count
-overflow_add-count c = record { fits = omega (arith, c.loop-count-test.true, c.ranges.most) }
-
-pub loop-count-smaller : goal.loop-count-smaller
-loop-count-smaller c = omega (arith, c.loop-count-test.true)
+    (omega (arith, n), omega (arith, n), limit-come (goal.at.loop-count-init c).After-min-limit, (liked (goal.at.loop-count-init c).Else-not-is_run).0, λ _. none)
 
 pub loop-count-preserved : goal.loop-count-preserved
 loop-count-preserved c =

@@ -1,5 +1,5 @@
--- The invariant of the loop, and its measure.
-use Rattle.std.proofs.Common.{ℕ, ◌+◌, ◌-◌, ◌≤◌, length}
+-- The invariant of the loop.
+use Rattle.std.proofs.Common.{ℕ, ◌+◌, ◌≤◌, length}
 use Rattle.record.specs.Follow.{Ruled}
 use Rattle.judge.specs.Run.{Liking, Alike}
 use Rattle.judge.proofs.run.run_of.Given as goal
@@ -13,6 +13,3 @@ pub record Before (len due d limit : ℕ) : Type 0 where
 abbrev pub invariant-loop-count : goal.invariant-loop-count
 invariant-loop-count l =
     (l.end ≤ l.limit) × (l.size ≤ l.limit) × Before (length l.s) l.due l.d l.limit × Liking l.class l.size × (Ruled l.follow → Alike l.s l.class l.size l.due l.d l.most l.at l.count l.end)
-
-abbrev pub decreases-loop-count : goal.decreases-loop-count
-decreases-loop-count l = l.most - l.count

@@ -6,12 +6,12 @@ use Rattle.meter.proofs.general.fits_general.Goals as goal
 
 pub returns-then-not-is_moment : goal.returns-then-not-is_moment
 returns-then-not-is_moment c =
-    fits_no c.args.long c.args.time c.in-At.t c.in-At.is (sym c.is_moment.ensures ∙ not-true c.is_moment.result c.if-not-is_moment.true-raw)
+    fits_no c.args.long c.args.time c.in-Some.t c.in-Some.is (sym c.is_moment.ensures ∙ not-true c.is_moment.result c.if-not-is_moment.true-raw)
 
 pub returns-then-long : goal.returns-then-long
 returns-then-long c =
-    fits_long c.args.long c.args.time c.in-At.t c.in-At.is (sym c.is_moment.ensures ∙ not-false c.is_moment.result c.if-not-is_moment.false-raw) c.if-long.true
+    fits_long c.args.long c.args.time c.in-Some.t c.in-Some.is (sym c.is_moment.ensures ∙ not-false c.is_moment.result c.if-not-is_moment.false-raw) c.if-long.true
 
 pub returns-else-long : goal.returns-else-long
 returns-else-long c =
-    fits_short c.args.long c.args.time c.in-At.t c.in-At.is (sym c.is_moment.ensures ∙ not-false c.is_moment.result c.if-not-is_moment.false-raw) c.if-long.false
+    fits_short c.args.long c.args.time c.in-Some.t c.in-Some.is (sym c.is_moment.ensures ∙ not-false c.is_moment.result c.if-not-is_moment.false-raw) c.if-long.false

@@ -1,11 +1,7 @@
--- The invariant of the loop, and its measure.
+-- The invariant of the loop.
 use Rattle.meter.specs.Integer.{be_at}
-use Prim.Native.Nat.{◌≤◌, ◌-◌}
 use mathlib.Core.Path.{◌≡◌}
 use Rattle.meter.proofs.integer.be.Given as goal
 
-abbrev pub invariant-loop-i : goal.invariant-loop-i
-invariant-loop-i l = (l.i ≤ l.n) × (l.v ≡ be_at l.bytes l.at l.i)
-
-abbrev pub decreases-loop-i : goal.decreases-loop-i
-decreases-loop-i l = l.n - l.i
+abbrev pub invariant-loop-b : goal.invariant-loop-b
+invariant-loop-b l = l.v ≡ be_at l.bytes l.at l.b-index

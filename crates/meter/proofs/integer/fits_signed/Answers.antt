@@ -23,12 +23,12 @@ pub returns-then-z-lt0 : goal.returns-then-z-lt0
 unfolding fits_signed
 returns-then-z-lt0 c =
     let w : is_width c.args.width ≡ true = sym c.is_width.ensures ∙ not-false c.is_width.result c.if-not-is_width.false-raw in
-    let m : c.size_of.result ≡ nat_abs c.args.z = c.size_of.ensures ∙ ap nat_abs (to_z-of_z w64 c.args.z c.ranges.z) in
+    let m : c.unsigned_abs.result ≡ nat_abs c.args.z = c.unsigned_abs.ensures.value ∙ ap nat_abs (to_z-of_z w64 c.args.z c.ranges.z) in
     simp (w, m, c.half-h.ensures) (size_neg c.args.z _ (tested c.args.z c.ranges.z true c.if-z-lt0.true))
 
 pub returns : goal.returns
 unfolding fits_signed
 returns c =
     let w : is_width c.args.width ≡ true = sym c.is_width.ensures ∙ not-false c.is_width.result c.if-not-is_width.false-raw in
-    let m : c.size_of-2.result ≡ nat_abs c.args.z = c.size_of-2.ensures ∙ ap nat_abs (to_z-of_z w64 c.args.z c.ranges.z) in
+    let m : c.unsigned_abs-2.result ≡ nat_abs c.args.z = c.unsigned_abs-2.ensures.value ∙ ap nat_abs (to_z-of_z w64 c.args.z c.ranges.z) in
     simp (w, m, c.half-h.ensures) (size_pos c.args.z _ (tested c.args.z c.ranges.z false c.if-z-lt0.false))

@@ -1,6 +1,6 @@
 -- `meter::scaled::defined` meets its contract: the scale, then the integer by its sign. Assumes nothing.
 use mir.Val.{to_z, of_z}
-use Rattle.meter.specs.declared.scaled.Scaled.TheVariants as S
+use Rattle.meter.specs.Numeral as S
 use Rattle.meter.proofs.ScaledLaws.{signed_below}
 use Rattle.meter.proofs.IntegerLaws.{wide_of}
 use Rattle.meter.specs.Scaled.{is_scale, integer_of, defined_of}

@@ -27,7 +27,7 @@ returns-then-signed c =
     let z = to_z-of_z w8 a.scale c.ranges.scale in
     let e : is_scale a.scale ≡ true = sym (c.is_scale.ensures ∙ ap is_scale z) ∙ not-false c.is_scale.result c.if-not-is_scale.false-raw in
     let i = to_z-of_z w64 a.integer c.ranges.integer in
-    let m : c.size_of-size.result ≡ nat_abs a.integer = c.size_of-size.ensures ∙ ap nat_abs i in
+    let m : c.unsigned_abs-size.result ≡ nat_abs a.integer = c.unsigned_abs-size.ensures.value ∙ ap nat_abs i in
     ap (λ (k : ℕ). ltb k c.half.result) m ∙ ap (ltb (nat_abs a.integer)) c.half.ensures ∙ fits_signed a.width a.integer a.scale (wide_of a.width c.requires) e
     ∙ sym (ap (λ (g : Bool). fits_defined g a.width a.integer a.scale) c.if-signed.true)
 
@@ -45,7 +45,7 @@ returns c =
     let z = to_z-of_z w8 a.scale c.ranges.scale in
     let e : is_scale a.scale ≡ true = sym (c.is_scale.ensures ∙ ap is_scale z) ∙ not-false c.is_scale.result c.if-not-is_scale.false-raw in
     let i = to_z-of_z w64 a.integer c.ranges.integer in
-    let m : c.size_of-size.result ≡ nat_abs a.integer = c.size_of-size.ensures ∙ ap nat_abs i in
+    let m : c.unsigned_abs-size.result ≡ nat_abs a.integer = c.unsigned_abs-size.ensures.value ∙ ap nat_abs i in
     ap (λ (k : ℕ). ltb k c.top.result) m ∙ ap (ltb (nat_abs a.integer)) c.top.ensures
     ∙ fits_unsigned a.width a.integer a.scale c.ranges.integer (tested a.integer c.ranges.integer false c.if-integer-lt0.false) e
     ∙ sym (ap (λ (g : Bool). fits_defined g a.width a.integer a.scale) c.if-signed.false)

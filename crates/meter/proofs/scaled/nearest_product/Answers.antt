@@ -15,7 +15,7 @@ nonzero_div-p c = omega (arith, ten_pos c.args.k)
 pub returns-then-m-p : goal.returns-then-m-p
 returns-then-m-p c =
     let a = c.args in
-    let m : c.size_of-m.result ≡ nat_abs a.integer = c.size_of-m.ensures ∙ ap nat_abs (to_z-of_z w64 a.integer c.ranges.integer) in
+    let m : c.unsigned_abs-m.result ≡ nat_abs a.integer = c.unsigned_abs-m.ensures.value ∙ ap nat_abs (to_z-of_z w64 a.integer c.ranges.integer) in
     let t : c.power-p.result ≡ 10 ^ a.k = c.power-p.ensures in
     let p : 0 < c.power-p.result = omega (arith, ten_pos a.k) in
     let h : 2 ^ 63 < nat_abs a.integer * 10 ^ a.k = simp (← m, ← t) ((div-lt_iff_lt-mul p).0 c.if-m-p.true) in
@@ -32,6 +32,6 @@ pub returns : goal.returns
 returns c =
     let a = c.args in
     let z = to_z-of_z w64 a.integer c.ranges.integer in
-    let m : c.size_of-m.result ≡ nat_abs a.integer = c.size_of-m.ensures ∙ ap nat_abs z in
+    let m : c.unsigned_abs-m.result ≡ nat_abs a.integer = c.unsigned_abs-m.ensures.value ∙ ap nat_abs z in
     let t : c.power-p.result ≡ 10 ^ a.k = c.power-p.ensures in
     c.grown.ensures ∙ simp (z, m, t) (sym (nearest_product a.integer a.d a.k))

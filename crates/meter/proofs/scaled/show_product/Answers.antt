@@ -45,10 +45,10 @@ module _ (i : ℤ) (f : SFits w64 i) (k p m : ℕ) (l : k ≤ 15) (t : p ≡ 10 
 pub nonzero_div-p : goal.nonzero_div-p
 nonzero_div-p c = omega (arith, ten_pos c.args.k)
 
-pub returns-then-size_of-p : goal.returns-then-size_of-p
-returns-then-size_of-p c =
+pub returns-then-unsigned_abs-p : goal.returns-then-unsigned_abs-p
+returns-then-unsigned_abs-p c =
     let a = c.args in
-    let h = over a.integer c.ranges.integer a.k c.power-p.result c.size_of.result c.requires c.power-p.ensures c.size_of.ensures c.if-size_of-p.true in
+    let h = over a.integer c.ranges.integer a.k c.power-p.result c.unsigned_abs.result c.requires c.power-p.ensures c.unsigned_abs.ensures.value c.if-unsigned_abs-p.true in
     sym (simp (lt-leb (nat_abs (a.integer *ℤ pos (10 ^ a.k))) (2 ^ 53) h))
 
 pub overflow_cast-product : goal.overflow_cast-product
@@ -56,21 +56,21 @@ overflow_cast-product c = record { sfits = omega (arith, ten_small c.args.k c.re
 
 pub overflow_mul-product : goal.overflow_mul-product
 overflow_mul-product c =
-    made-fits c.args.integer c.ranges.integer c.args.k c.power-p.result c.size_of.result c.requires c.power-p.ensures c.size_of.ensures c.if-size_of-p.false
+    made-fits c.args.integer c.ranges.integer c.args.k c.power-p.result c.unsigned_abs.result c.requires c.power-p.ensures c.unsigned_abs.ensures.value c.if-unsigned_abs-p.false
 
 pub int_to_float-result : goal.int_to_float-result
 int_to_float-result c =
     let a = c.args in
     let b = c.power-p in
-    let m = c.size_of in
-    let h = within a.integer c.ranges.integer a.k b.result m.result c.requires b.ensures m.ensures c.if-size_of-p.false in
-    subst (λ (y : ℤ). T (in_float binary64 y)) (sym (made-back a.integer c.ranges.integer a.k b.result m.result c.requires b.ensures m.ensures c.if-size_of-p.false)) (in_float_lem (a.integer *ℤ pos (10 ^ a.k)) h)
+    let m = c.unsigned_abs in
+    let h = within a.integer c.ranges.integer a.k b.result m.result c.requires b.ensures m.ensures.value c.if-unsigned_abs-p.false in
+    subst (λ (y : ℤ). T (in_float binary64 y)) (sym (made-back a.integer c.ranges.integer a.k b.result m.result c.requires b.ensures m.ensures.value c.if-unsigned_abs-p.false)) (in_float_lem (a.integer *ℤ pos (10 ^ a.k)) h)
 
 pub returns : goal.returns
 returns c =
     let a = c.args in
     let b = c.power-p in
-    let m = c.size_of in
-    let h = within a.integer c.ranges.integer a.k b.result m.result c.requires b.ensures m.ensures c.if-size_of-p.false in
-    ap (λ (y : ℤ). answer (M.Whole (of_int binary64 y))) (made-back a.integer c.ranges.integer a.k b.result m.result c.requires b.ensures m.ensures c.if-size_of-p.false)
+    let m = c.unsigned_abs in
+    let h = within a.integer c.ranges.integer a.k b.result m.result c.requires b.ensures m.ensures.value c.if-unsigned_abs-p.false in
+    ap (λ (y : ℤ). answer (M.Whole (of_int binary64 y))) (made-back a.integer c.ranges.integer a.k b.result m.result c.requires b.ensures m.ensures.value c.if-unsigned_abs-p.false)
     ∙ sym (simp (le-leb (nat_abs (a.integer *ℤ pos (10 ^ a.k))) (2 ^ 53) h, product_whole a.integer a.k))

@@ -25,14 +25,14 @@ divides i s p f t =
 pub returns-then-m-gt9007199254740992 : goal.returns-then-m-gt9007199254740992
 returns-then-m-gt9007199254740992 c =
     let i = c.args.integer in
-    let m : c.size_of-m.result ≡ nat_abs i = c.size_of-m.ensures ∙ ap nat_abs (to_z-of_z w64 i c.ranges.integer) in
+    let m : c.unsigned_abs-m.result ≡ nat_abs i = c.unsigned_abs-m.ensures.value ∙ ap nat_abs (to_z-of_z w64 i c.ranges.integer) in
     sym (simp (lt-leb (nat_abs i) (2 ^ 53) (omega arith)))
 
 pub int_to_float-q : goal.int_to_float-q
 int_to_float-q c =
     let i = c.args.integer in
     let z = to_z-of_z w64 i c.ranges.integer in
-    let m : c.size_of-m.result ≡ nat_abs i = c.size_of-m.ensures ∙ ap nat_abs z in
+    let m : c.unsigned_abs-m.result ≡ nat_abs i = c.unsigned_abs-m.ensures.value ∙ ap nat_abs z in
     subst (λ (y : ℤ). T (in_float binary64 y)) (sym z) (in_float_lem i (omega arith))
 
 pub int_to_float-q-2 : goal.int_to_float-q-2
@@ -46,7 +46,7 @@ pub returns-then-m-p-eq0 : goal.returns-then-m-p-eq0
 returns-then-m-p-eq0 c =
     let i = c.args.integer in
     let z = to_z-of_z w64 i c.ranges.integer in
-    let m : c.size_of-m.result ≡ nat_abs i = c.size_of-m.ensures ∙ ap nat_abs z in
+    let m : c.unsigned_abs-m.result ≡ nat_abs i = c.unsigned_abs-m.ensures.value ∙ ap nat_abs z in
     let p : c.power-p.result ≡ 10 ^ c.args.s = c.power-p.ensures in
     let h : nat_abs i ≤ 2 ^ 53 = omega arith in
     let q : eqb (nat_abs i % 10 ^ c.args.s) 0 ≡ true = simp (← m, ← p) (eq-eqb _ _ c.if-m-p-eq0.true) in
@@ -56,7 +56,7 @@ pub returns-else-m-p-eq0 : goal.returns-else-m-p-eq0
 returns-else-m-p-eq0 c =
     let i = c.args.integer in
     let z = to_z-of_z w64 i c.ranges.integer in
-    let m : c.size_of-m.result ≡ nat_abs i = c.size_of-m.ensures ∙ ap nat_abs z in
+    let m : c.unsigned_abs-m.result ≡ nat_abs i = c.unsigned_abs-m.ensures.value ∙ ap nat_abs z in
     let p : c.power-p.result ≡ 10 ^ c.args.s = c.power-p.ensures in
     let h : nat_abs i ≤ 2 ^ 53 = omega arith in
     let q : eqb (nat_abs i % 10 ^ c.args.s) 0 ≡ false = simp (← m, ← p) (ne_eqb _ _ c.if-m-p-eq0.false) in

@@ -1,5 +1,6 @@
 -- `meter::time::read_time` meets its contract: the part, the bits that are all one, then the millisecond. Assumes nothing.
-use Rattle.meter.specs.declared.time.Time.TheVariants as T
+use Rattle.std.specs.declared.option.Option.TheVariants.{None}
+use Rattle.meter.specs.Instant as T
 use Rattle.meter.specs.Time.{is_milli, time_of, time_at}
 use Rattle.meter.proofs.TimeLaws.{bits_none, bits_some, time_read}
 use Rattle.meter.proofs.IntegerLaws.{be_at_lt}
@@ -25,8 +26,8 @@ pub returns-then-bits-eq-UNDEFINED : goal.returns-then-bits-eq-UNDEFINED
 returns-then-bits-eq-UNDEFINED c =
     let i : inside c.args.bytes.now c.args.at (6) ≡ true = sym c.holds.ensures ∙ not-false c.holds.result c.if-not-holds.false-raw in
     let a = c.args in
-    let t : time_at a.bytes.now a.at ≡ T.Undefined = ap time_of (sym c.be-bits.ensures) ∙ bits_none c.be-bits.result c.if-bits-eq-UNDEFINED.true in
-    sym (time_read a.bytes.now a.at T.Undefined i t)
+    let t : time_at a.bytes.now a.at ≡ None = ap time_of (sym c.be-bits.ensures) ∙ bits_none c.be-bits.result c.if-bits-eq-UNDEFINED.true in
+    sym (time_read a.bytes.now a.at None i t)
 
 pub overflow_cast-day : goal.overflow_cast-day
 overflow_cast-day c =

@@ -3,5 +3,5 @@ use Rattle.meter.specs.Time.{bits_of}
 use mathlib.Core.Path.{sym, ap}
 use Rattle.meter.proofs.time.time_bits.Goals as goal
 
-pub returns-in-At : goal.returns-in-At
-returns-in-At c = sym (ap bits_of c.in-At.is)
+pub returns-in-Some : goal.returns-in-Some
+returns-in-Some c = sym (ap bits_of c.in-Some.is)

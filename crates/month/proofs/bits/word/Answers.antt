@@ -4,4 +4,4 @@ use Rattle.judge.proofs.WordLaws.{wider}
 use Rattle.month.proofs.bits.word.Goals as goal
 
 pub returns : goal.returns
-returns c = (wider _ _ 3 (wider _ _ 2 c.pair.ensures.0 c.wide.ensures.0) c.wide-2.ensures.0, omega arith)
+returns c = (wider _ _ 3 (wider _ _ 2 c.pair.ensures.0 c.from.ensures) c.from-2.ensures, omega arith)

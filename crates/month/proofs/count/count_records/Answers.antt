@@ -32,22 +32,19 @@ loop-at-init c = let t = c.requires in (t, (_, first t))
 pub size_in-size-requires : goal.size_in-size-requires
 size_in-size-requires c = let h = here c in omega (arith, h.here.least, h.here.most)
 
-pub bounds-s-at : goal.bounds-s-at
-bounds-s-at c = omega (arith, c.loop-at-test.true)
-
 pub raise-requires : goal.raise-requires
 raise-requires c =
     let h = here (goal.at.raise-requires c).In-loop-at in
-    (omega (arith, h.here.eight, c.place-class.ensures), omega (arith, few_records (T (goal.at.raise-requires c).After-size_in-size) c.place-class.result, raised_most _ (λ (i : ℕ). 1) h.sofar.counts c.place-class.ensures refl))
+    (omega (arith, h.here.eight, c.from-class.ensures), omega (arith, few_records (T (goal.at.raise-requires c).After-size_in-size) c.from-class.result, raised_most _ (λ (i : ℕ). 1) h.sofar.counts c.from-class.ensures refl))
 
 pub raise-requires-in-loop-at : goal.raise-requires-in-loop-at
 raise-requires-in-loop-at c =
     let h = here (goal.at.raise-requires-in-loop-at c).In-loop-at in
-    (omega (arith, h.here.eight, c.place-class.ensures), omega (arith, few_bytes (T (goal.at.raise-requires-in-loop-at c).After-size_in-size) c.place-class.result, raised_most _ (size _) h.sofar.sizes c.place-class.ensures (c.long.ensures ∙ sized (goal.at.raise-requires-in-loop-at c).After-size_in-size)))
+    (omega (arith, h.here.eight, c.from-class.ensures), omega (arith, few_bytes (T (goal.at.raise-requires-in-loop-at c).After-size_in-size) c.from-class.result, raised_most _ (size _) h.sofar.sizes c.from-class.ensures (sized (goal.at.raise-requires-in-loop-at c).After-size_in-size)))
 
 pub paired-pairs-requires : goal.paired-pairs-requires
 paired-pairs-requires c =
-    ask_pair (T (goal.at.paired-pairs-requires c).After-size_in-size) (here (goal.at.paired-pairs-requires c).In-loop-at) (byte (goal.at.paired-pairs-requires c).After-size_in-size) _ c.place-class.ensures
+    ask_pair (T (goal.at.paired-pairs-requires c).After-size_in-size) (here (goal.at.paired-pairs-requires c).In-loop-at) (byte (goal.at.paired-pairs-requires c).After-size_in-size) _ c.from-class.ensures
 
 pub overflow_add-at : goal.overflow_add-at
 overflow_add-at c =
@@ -62,7 +59,7 @@ loop-at-smaller c =
 pub loop-at-preserved : goal.loop-at-preserved
 loop-at-preserved c =
     let h = here (goal.at.loop-at-preserved c).In-loop-at in
-    (T (goal.at.loop-at-preserved c).After-size_in-size, (h.rest, next (T (goal.at.loop-at-preserved c).After-size_in-size) h c.place-class.ensures (c.long.ensures ∙ sized (goal.at.loop-at-preserved c).After-size_in-size) (sized (goal.at.loop-at-preserved c).After-size_in-size) c.raise.ensures c.raise-in-loop-at.ensures c.paired-pairs.ensures))
+    (T (goal.at.loop-at-preserved c).After-size_in-size, (h.rest, next (T (goal.at.loop-at-preserved c).After-size_in-size) h c.from-class.ensures (sized (goal.at.loop-at-preserved c).After-size_in-size) (sized (goal.at.loop-at-preserved c).After-size_in-size) c.raise.ensures c.raise-in-loop-at.ensures c.paired-pairs.ensures))
 
 pub returns : goal.returns
 returns c =

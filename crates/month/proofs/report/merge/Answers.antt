@@ -6,8 +6,5 @@ use Rattle.month.proofs.report.merge.Goals as goal
 pub returns-then-not-fits : goal.returns-then-not-fits
 returns-then-not-fits c = over (c.fits.ensures.wrong c.if-not-fits.true)
 
-pub sum-requires : goal.sum-requires
-sum-requires c = c.fits.ensures.right c.if-not-fits.false
-
 pub returns : goal.returns
 returns c = merge_at c.sum.ensures (merged (c.fits.ensures.right c.if-not-fits.false))

@@ -1,10 +1,6 @@
--- The invariant of the loop, and its measure.
-use Prim.Native.Nat.{◌-◌, ◌≤◌}
+-- The invariant of the loop.
 use Rattle.month.proofs.PlusLaws.{Summed}
 use Rattle.month.proofs.report.sum.Given as goal
 
 abbrev pub invariant-loop-i : goal.invariant-loop-i
-invariant-loop-i l = (l.i ≤ 38) × Summed l.report l.other l.sums l.i
-
-abbrev pub decreases-loop-i : goal.decreases-loop-i
-decreases-loop-i l = 38 - l.i
+invariant-loop-i l = Summed l.fn.report l.fn.other l.sums l.i

@@ -1,6 +1,7 @@
 -- `mphr::faults::is_headed` meets its contract: class, group, subclass, then the size that meter reads. Assumes nothing.
 use Rattle.mphr.proofs.FirstLaws.{size_is, size_there}
-use Rattle.meter.specs.Integer.{be_at, said_unsigned}
+use Rattle.calendar.specs.Said.{said}
+use Rattle.meter.specs.Integer.{be_at}
 use Rattle.mphr.specs.Table.{headed}
 use Prim.Native.Nat.{ℕ}
 use lib.Dec.{eqb}
@@ -21,14 +22,14 @@ pub returns-then-s-ne0-2 : goal.returns-then-s-ne0-2
 unfolding headed
 returns-then-s-ne0-2 c = simp (eq-eqb _ _ c.if-s-ne1.false, eq-eqb _ _ c.if-s-ne0.false, ne_eqb _ _ c.if-s-ne0-2.true)
 
-pub returns-in-Value : goal.returns-in-Value
+pub returns-in-Ok : goal.returns-in-Ok
 unfolding headed
-returns-in-Value c =
+returns-in-Ok c =
     let a = c.args.s.now in
-    let e : c.in-Value.size ≡ be_at a 4 4 = size_is a c.in-Value.size (omega arith) (sym (ap said_unsigned c.in-Value.is) ∙ c.read_unsigned.ensures) in
+    let e : c.in-Ok.size ≡ be_at a 4 4 = size_is a c.in-Ok.size (omega arith) (sym (ap said c.in-Ok.is) ∙ c.read_unsigned.ensures) in
     simp (eq-eqb _ _ c.if-s-ne1.false, eq-eqb _ _ c.if-s-ne0.false, eq-eqb _ _ c.if-s-ne0-2.false) (ap (λ (n : ℕ). eqb n 3307) e)
 
-pub returns-in-Refused : goal.returns-in-Refused
-returns-in-Refused c =
+pub returns-in-Err : goal.returns-in-Err
+returns-in-Err c =
     let a = c.args.s.now in
-    absurd (size_there a c.in-Refused.field-0 (omega arith) (sym (ap said_unsigned c.in-Refused.is) ∙ c.read_unsigned.ensures))
+    absurd (size_there a c.in-Err.field-0 (omega arith) (sym (ap said c.in-Err.is) ∙ c.read_unsigned.ensures))

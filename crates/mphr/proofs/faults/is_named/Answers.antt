@@ -18,38 +18,14 @@ all-names = refl
 in_table : (c : In-loop-i) → length c.args.table.now ≡ 2160
 in_table c = ap length c.requires.3 ∙ all-names
 
-pub loop-i-init : goal.loop-i-init
-loop-i-init c = (omega arith, (λ m h. absurd (omega arith)))
-
-pub overflow_mul-i : goal.overflow_mul-i
-overflow_mul-i c = omega arith
-
-pub overflow_add-at : goal.overflow_add-at
-overflow_add-at c = record { fits = omega arith }
-
-pub overflow_mul-k : goal.overflow_mul-k
-overflow_mul-k c = omega arith
-
-pub overflow_mul-i-in-loop-i : goal.overflow_mul-i-in-loop-i
-overflow_mul-i-in-loop-i c = omega arith
-
-pub overflow_add-k : goal.overflow_add-k
-overflow_add-k c = omega arith
-
 pub is_alike-requires : goal.is_alike-requires
 is_alike-requires c = (omega arith, omega (arith, in_table c, c.requires.0))
 
 pub returns-then-not-is_alike : goal.returns-then-not-is_alike
 returns-then-not-is_alike c = not_named c.args.s.now c.args.table.now c.args.k c.args.at c.loop-i.i c.requires.1 c.requires.3 c.loop-i-test.true (c.is_alike.ensures.bad (not-true c.is_alike.result c.if-not-is_alike.true-raw))
 
-pub overflow_add-i : goal.overflow_add-i
-overflow_add-i c = omega arith
-
-pub loop-i-smaller : goal.loop-i-smaller
-loop-i-smaller c = omega arith
-
 pub loop-i-preserved : goal.loop-i-preserved
-loop-i-preserved c = (omega arith, ten_more c.args.s.now c.args.table.now c.args.k c.args.at c.loop-i.i c.requires.1 c.requires.3 c.loop-i.invariant.1 (c.is_alike.ensures.good (not-false c.is_alike.result c.if-not-is_alike.false-raw)))
+loop-i-preserved c = ten_more c.args.s.now c.args.table.now c.args.k c.args.at c.loop-i.i c.requires.1 c.requires.3 c.loop-i.invariant (c.is_alike.ensures.good (not-false c.is_alike.result c.if-not-is_alike.false-raw))
 
 pub returns : goal.returns
-returns c = name_yes c.args.s.now c.args.k c.args.at (10 * c.loop-i.i) c.requires.1 (omega arith) c.loop-i.invariant.1
+returns c = name_yes c.args.s.now c.args.k c.args.at (10 * c.loop-i.i) c.requires.1 (omega arith) c.loop-i.invariant

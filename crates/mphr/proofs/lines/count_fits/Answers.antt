@@ -5,8 +5,8 @@ use mathlib.Core.Bool.{false}
 use mathlib.Core.Path.{sym, ap, ◌∙◌}
 use Rattle.mphr.proofs.lines.count_fits.Goals as goal
 
-pub returns-in-Whole : goal.returns-in-Whole
-returns-in-Whole c =
+pub returns-in-Some : goal.returns-in-Some
+returns-in-Some c =
     let a = c.args in
-    let t = c.in-Whole.is in
+    let t = c.in-Some.is in
     c.fits_number.ensures ∙ ap (fits_number false a.w) t ∙ sym (ap (count_fits a.w) t)

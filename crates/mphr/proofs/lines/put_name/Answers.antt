@@ -10,44 +10,16 @@ use native.Mathlib.Omega.{arith}
 use mathlib.Core.Path.{refl, sym, ap, ◌∙◌}
 use Rattle.mphr.proofs.lines.put_name.Goals as goal
 
-pub words-row-requires : goal.words-row-requires
-words-row-requires c = omega arith
-
-pub loop-i-init : goal.loop-i-init
-loop-i-init c = (omega arith, refl, refl)
-
-pub overflow_sub-i : goal.overflow_sub-i
-overflow_sub-i c = omega arith
-
-pub offset_bounds-row-i : goal.offset_bounds-row-i
-offset_bounds-row-i c = omega arith
-
-pub bounds-row-i : goal.bounds-row-i
-bounds-row-i c = omega arith
-
-pub byte_of-requires : goal.byte_of-requires
-byte_of-requires c = omega arith
-
-pub bounds-room-i : goal.bounds-room-i
-bounds-room-i c = omega arith
-
-pub loop-i-smaller : goal.loop-i-smaller
-loop-i-smaller c = omega arith
-
 pub loop-i-preserved : goal.loop-i-preserved
 loop-i-preserved c =
     let l = c.loop-i in
     let i = l.i - 1 in
     let b = c.byte_of.ensures ∙ ap (λ (r : List ℕ). byte_of (get_or r (i / 8) 0) (i % 8)) c.words-row.ensures ∙ byte_at c.args.k (omega arith) i (omega arith) in (
-      omega arith,
-      simp length-set l.invariant.1,
-      ap (λ (x : ℕ). put_name (set l.room i x) c.args.k i) b ∙ sym (name_step l.room c.args.k l.i (omega arith)) ∙ l.invariant.2,
+      simp length-set l.invariant.0,
+      ap (λ (x : ℕ). put_name (set l.room i x) c.args.k i) b ∙ sym (name_step l.room c.args.k l.i (omega arith)) ∙ l.invariant.1,
     )
-
-pub shape_of-room : goal.shape_of-room
-shape_of-room c = c.loop-i.invariant.1
 
 pub returns : goal.returns
 returns c =
     let l = c.loop-i in
-    sym (name_none l.room c.args.k l.i (omega arith)) ∙ l.invariant.2
+    sym (name_none l.room c.args.k l.i (omega arith)) ∙ l.invariant.1

@@ -1,12 +1,8 @@
--- The invariant of the loop, and its measure.
+-- The invariant of the loop.
 use Rattle.mphr.specs.Lines.{put_name}
 use lib.ListN.{length}
-use Prim.Native.Nat.{◌≤◌}
 use mathlib.Core.Path.{◌≡◌}
 use Rattle.mphr.proofs.lines.put_name.Given as goal
 
 abbrev pub invariant-loop-i : goal.invariant-loop-i
-invariant-loop-i l = (l.i ≤ l.n) × (length l.room ≡ length l.initial.room) × (put_name l.room l.k l.i ≡ put_name l.initial.room l.k l.n)
-
-abbrev pub decreases-loop-i : goal.decreases-loop-i
-decreases-loop-i l = l.i
+invariant-loop-i l = (length l.room ≡ length l.initial.room) × (put_name l.room l.k l.i ≡ put_name l.initial.room l.k l.n)

@@ -6,7 +6,7 @@ use Prim.Native.Nat.{ℕ, ◌<◌, ◌≤◌}
 use native.Mathlib.Omega.{arith}
 use mathlib.Core.Bool.{true, false}
 use mathlib.Core.Path.{◌≡◌, sym, ◌∙◌}
-use Rattle.meter.specs.declared.integer.Written.TheVariants as W
+use Rattle.std.specs.declared.result.Result.TheVariants.{Ok}
 use Rattle.record.proofs.ReadsBack.{header_ranges, header_written_back}
 use Rattle.record.proofs.header.write_header.Goals as goal
 
@@ -36,5 +36,5 @@ returns c =
     let l : 20 ≤ length a.room.now = c.if-room-lt20.false in
     let k = le-leb 20 (length a.room.now) l in
     let x = c.put_header.new.room in
-    let w : WritesHeader a.room.now a.header (W.Bytes 20) x = (simp (e, k), simp (e, k) c.put_header.ensures) in
-    record { writes_header = w; reads_back = header_written_back a.room.now x (W.Bytes 20) a.header (header_ranges a.header _ c.well_formed.1.0) w }
+    let w : WritesHeader a.room.now a.header (Ok 20) x = (simp (e, k), simp (e, k) c.put_header.ensures) in
+    record { writes_header = w; reads_back = header_written_back a.room.now x (Ok 20) a.header (header_ranges a.header _ c.well_formed.1.0) w }

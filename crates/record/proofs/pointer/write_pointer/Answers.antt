@@ -7,7 +7,7 @@ use native.Mathlib.Omega.{arith}
 use mathlib.Core.Bool.{true, false}
 use mathlib.Core.Path.{◌≡◌, sym, ◌∙◌}
 use Rattle.record.proofs.PointerLaws.{pointer_header}
-use Rattle.meter.specs.declared.integer.Written.TheVariants as W
+use Rattle.std.specs.declared.result.Result.TheVariants.{Ok}
 use Rattle.record.proofs.ReadsBack.{pointer_ranges, pointer_written_back}
 use Rattle.record.proofs.pointer.write_pointer.Goals as goal
 
@@ -37,5 +37,5 @@ returns c =
     let l : 27 ≤ length a.room.now = c.if-room-lt27.false in
     let k = le-leb 27 (length a.room.now) l in
     let x = c.put_pointer.new.room in
-    let w : WritesPointer a.room.now a.pointer (W.Bytes 27) x = (simp (e, k), simp (e, k) c.put_pointer.ensures) in
-    record { writes_pointer = w; reads_back = pointer_written_back a.room.now x (W.Bytes 27) a.pointer (pointer_ranges a.pointer _ c.well_formed.1.0) w }
+    let w : WritesPointer a.room.now a.pointer (Ok 27) x = (simp (e, k), simp (e, k) c.put_pointer.ensures) in
+    record { writes_pointer = w; reads_back = pointer_written_back a.room.now x (Ok 27) a.pointer (pointer_ranges a.pointer _ c.well_formed.1.0) w }

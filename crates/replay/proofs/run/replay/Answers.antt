@@ -6,7 +6,7 @@ use borrow.Author.Tests.{not-true, not-false}
 use lib.ListN.{length}
 use Rattle.replay.specs.Layout.{number_at, parts, length_at, answers, size_of, sums}
 use Rattle.replay.specs.Replay.{missized, uneven, unsummed}
-use Rattle.replay.proofs.RunLaws.{eqb_yes, eqb_no, refused_as}
+use Rattle.replay.proofs.RunLaws.{eqb_yes, eqb_no}
 use Rattle.replay.proofs.run.replay.Goals as goal
 use Rattle.replay.proofs.run.replay.Goals.{Else-not-is_sized, After-number_at, Else-number_at-n, After-sum_of}
 
@@ -26,7 +26,7 @@ summed c = c.sum_of.ensures ∙ ap (sums (length_at c.args.recorded.now)) c.numb
 pub returns-then-not-is_sized : goal.returns-then-not-is_sized
 returns-then-not-is_sized c =
     let i = c.is_sized in
-    refused_as c.refused.ensures (missized (eqb_no (sym i.ensures ∙ not-true i.result c.if-not-is_sized.true-raw)))
+    missized (eqb_no (sym i.ensures ∙ not-true i.result c.if-not-is_sized.true-raw))
 
 pub number_at-n-requires : goal.number_at-n-requires
 number_at-n-requires c = let z = sized c in omega arith
@@ -36,7 +36,7 @@ number_at-requires c = let z = sized (goal.at.number_at-requires c).Else-not-is_
 
 pub returns-then-number_at-n : goal.returns-then-number_at-n
 returns-then-number_at-n c =
-    refused_as c.refused-then-number_at-n.ensures (uneven (sized (goal.at.returns-then-number_at-n c).Else-not-is_sized) (λ e. c.if-number_at-n.true (second (goal.at.returns-then-number_at-n c).After-number_at ∙ e ∙ sym c.number_at-n.ensures.0)))
+    uneven (sized (goal.at.returns-then-number_at-n c).Else-not-is_sized) (λ e. c.if-number_at-n.true (second (goal.at.returns-then-number_at-n c).After-number_at ∙ e ∙ sym c.number_at-n.ensures.0))
 
 pub sum_of-requires : goal.sum_of-requires
 sum_of-requires c =
@@ -45,7 +45,7 @@ sum_of-requires c =
 
 pub returns-then-sum_of-product : goal.returns-then-sum_of-product
 returns-then-sum_of-product c =
-    refused_as c.refused-then-sum_of-product.ensures (unsummed (sized (goal.at.returns-then-sum_of-product c).Else-not-is_sized) (even (goal.at.returns-then-sum_of-product c).Else-number_at-n) (λ e. c.if-sum_of-product.true (summed (goal.at.returns-then-sum_of-product c).After-sum_of ∙ e)))
+    unsummed (sized (goal.at.returns-then-sum_of-product c).Else-not-is_sized) (even (goal.at.returns-then-sum_of-product c).Else-number_at-n) (λ e. c.if-sum_of-product.true (summed (goal.at.returns-then-sum_of-product c).After-sum_of ∙ e))
 
 pub replay_parts-requires : goal.replay_parts-requires
 replay_parts-requires c =

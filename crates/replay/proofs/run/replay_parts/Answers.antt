@@ -1,4 +1,4 @@
--- `replay::run::replay_parts` meets its contract. The invariant: the watch, its mark and its arrays in locals, stands for the parts before k, and the record
+-- `replay::run::replay_parts` meets its contract. The invariant: the watch stands for the parts before k, and the record
 -- agrees with each of its answers (RunLaws). Assumes nothing.
 use mathlib.Core.Path.{◌≡◌, refl, ap}
 use Prim.Native.Nat.{ℕ, ◌+◌, ◌*◌, ◌^◌, ◌≤◌, ◌<◌}
@@ -30,7 +30,7 @@ within c =
     omega (arith, far c)
 
 pub loop-k-init : goal.loop-k-init
-loop-k-init c = starts _ _ c.new-new.result c.new-new.ensures.fresh
+loop-k-init c = starts _ _ c.new-w.result c.new-w.ensures.fresh
 
 pub overflow_add-k : goal.overflow_add-k
 overflow_add-k c = let p = room c in omega arith
@@ -41,14 +41,14 @@ number_at-requires c = let p = room c in omega arith
 pub overflow_add-to : goal.overflow_add-to
 overflow_add-to c = let w = within c in omega arith
 
-pub slice_bounds-step_in-count : goal.slice_bounds-step_in-count
-slice_bounds-step_in-count c = omega arith
+pub slice_bounds-feed-count : goal.slice_bounds-feed-count
+slice_bounds-feed-count c = omega arith
 
-pub slice_bounds-step_in-start : goal.slice_bounds-step_in-start
-slice_bounds-step_in-start c = let w = within (goal.at.slice_bounds-step_in-start c).After-number_at in omega arith
+pub slice_bounds-feed-start : goal.slice_bounds-feed-start
+slice_bounds-feed-start c = let w = within (goal.at.slice_bounds-feed-start c).After-number_at in omega arith
 
-pub slice_bounds-step_in-end : goal.slice_bounds-step_in-end
-slice_bounds-step_in-end c = let w = within (goal.at.slice_bounds-step_in-end c).After-number_at in omega arith
+pub slice_bounds-feed-end : goal.slice_bounds-feed-end
+slice_bounds-feed-end c = let w = within (goal.at.slice_bounds-feed-end c).After-number_at in omega arith
 
 pub overflow_add-n : goal.overflow_add-n
 overflow_add-n c = let p = room (goal.at.overflow_add-n c).In-loop-k in omega arith
@@ -65,20 +65,14 @@ is_recorded-requires c = let p = room (goal.at.is_recorded-requires c).In-loop-k
 pub returns-then-not-is_recorded : goal.returns-then-not-is_recorded
 returns-then-not-is_recorded c =
     let p = c.requires in
-    ends_first p.fit p.counted c.loop-k.invariant c.loop-k-test.true _ (far (goal.at.returns-then-not-is_recorded c).After-number_at) refl c.step_in-fed.ensures c.is_recorded.ensures (not-true c.is_recorded.result c.if-not-is_recorded.true-raw)
-
-pub overflow_add-k-in-loop-k : goal.overflow_add-k-in-loop-k
-overflow_add-k-in-loop-k c = let p = room (goal.at.overflow_add-k-in-loop-k c).In-loop-k in omega arith
-
-pub loop-k-smaller : goal.loop-k-smaller
-loop-k-smaller c = let t = c.loop-k-test.true in omega arith
+    ends_first p.fit p.counted c.loop-k.invariant c.loop-k-test.true _ (far (goal.at.returns-then-not-is_recorded c).After-number_at) refl c.feed-answer.ensures c.is_recorded.ensures (not-true c.is_recorded.result c.if-not-is_recorded.true-raw)
 
 pub loop-k-preserved : goal.loop-k-preserved
 loop-k-preserved c =
     let p = c.requires in
-    goes_on p.fit p.counted c.loop-k.invariant c.loop-k-test.true _ (far (goal.at.loop-k-preserved c).After-number_at) refl c.step_in-fed.ensures c.is_recorded.ensures (not-false c.is_recorded.result c.if-not-is_recorded.false-raw)
+    goes_on p.fit p.counted c.loop-k.invariant c.loop-k-test.true _ (far (goal.at.loop-k-preserved c).After-number_at) refl c.feed-answer.ensures c.is_recorded.ensures (not-false c.is_recorded.result c.if-not-is_recorded.false-raw)
 
 pub returns : goal.returns
 returns c =
     let p = c.requires in
-    ends_none p.fit p.counted c.loop-k.invariant c.loop-k-test.false
+    ends_none p.fit p.counted c.loop-k.invariant (omega arith)

@@ -5,7 +5,7 @@ use Rattle.replay.proofs.SumLaws.{summed_none, summed_more, summed_fits, summed_
 use Rattle.replay.proofs.run.sum_of.Goals as goal
 
 pub loop-k-init : goal.loop-k-init
-loop-k-init c = (omega arith, summed_none _)
+loop-k-init c = summed_none _
 
 pub overflow_add-k : goal.overflow_add-k
 overflow_add-k c = let p = c.requires in omega (arith, p.counted, c.loop-k-test.true)
@@ -15,15 +15,13 @@ number_at-sum-requires c = let p = c.requires in omega (arith, p.come, c.loop-k-
 
 pub overflow_add-sum : goal.overflow_add-sum
 overflow_add-sum c =
-    let f = summed_fits c.loop-k.invariant.1 (omega (arith, c.requires.counted, c.loop-k-test.true)) c.number_at-sum.ensures.1 in
+    let f = summed_fits c.loop-k.invariant (omega (arith, c.requires.counted, c.loop-k-test.true)) c.number_at-sum.ensures.1 in
     omega arith
 
 pub loop-k-preserved : goal.loop-k-preserved
 loop-k-preserved c =
-    let t = c.loop-k-test.true in
-    (omega arith, summed_more c.loop-k.invariant.1 c.number_at-sum.ensures.0 c.number_at-sum.ensures.1)
+    summed_more c.loop-k.invariant c.number_at-sum.ensures.0 c.number_at-sum.ensures.1
 
 pub returns : goal.returns
 returns c =
-    let i = c.loop-k.invariant in
-    summed_all i.1 (omega (arith, i.0, c.loop-k-test.false))
+    summed_all c.loop-k.invariant (omega arith)

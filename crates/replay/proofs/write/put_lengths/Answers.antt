@@ -8,22 +8,21 @@ use Rattle.replay.proofs.PutLaws.{no_lengths, length_put}
 use Rattle.replay.proofs.write.put_lengths.Goals as goal
 
 pub loop-k-init : goal.loop-k-init
-loop-k-init c = (omega arith, no_lengths _ _)
+loop-k-init c = no_lengths _ _
 
 pub put_number-requires : goal.put_number-requires
 put_number-requires c =
-    (omega (arith, c.loop-k.invariant.1.kept.long, c.requires, c.loop-k-test.true), c.wide.ensures.1)
+    (omega (arith, c.loop-k.invariant.kept.long, c.requires, c.loop-k-test.true), c.wide.ensures.1)
 
 pub loop-k-preserved : goal.loop-k-preserved
 loop-k-preserved c =
-    let t = c.loop-k-test.true in
-    (omega arith, length_put c.loop-k.invariant.1 c.put_number.ensures c.wide.ensures.0 c.wide.ensures.1 (omega (arith, c.requires)))
+    length_put c.loop-k.invariant c.put_number.ensures c.wide.ensures.0 c.wide.ensures.1 (omega (arith, c.requires))
 
 pub shape_of-room : goal.shape_of-room
-shape_of-room c = c.loop-k.invariant.1.kept.long
+shape_of-room c = c.loop-k.invariant.kept.long
 
 pub returns : goal.returns
 returns c =
     let ls = c.args.lengths.now in
-    let e : c.loop-k.k ≡ length ls = omega (arith, c.loop-k.invariant.0, c.loop-k-test.false) in
-    subst (λ (k : ℕ). PutsLengths ls k c.args.room.now c.loop-k.room) e c.loop-k.invariant.1
+    let e : c.loop-k.k ≡ length ls = omega arith in
+    subst (λ (k : ℕ). PutsLengths ls k c.args.room.now c.loop-k.room) e c.loop-k.invariant

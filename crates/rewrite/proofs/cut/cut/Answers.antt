@@ -1,23 +1,24 @@
 -- `rewrite::cut::cut` meets its contract: the window, the verdict, and the cut of what it accepts. Assumes nothing.
 use mathlib.Core.Path.{◌≡◌, sym, ◌∙◌}
-use mathlib.Core.Bool.{true}
-use borrow.Author.Tests.{not-true, not-false}
-use Rattle.demands.proofs.Accepted.{accepted_product, verdict_at}
+use mathlib.Core.Bool.{true, false}
+use Rattle.std.specs.Prelude.{Err}
+use Rattle.std.proofs.Common.{rules}
+use Rattle.demands.proofs.Accepted.{accepted_product}
 use Rattle.parts.specs.Cut.{window, is_window}
 use Rattle.rewrite.specs.Cut.{no_window, unfit}
-use Rattle.rewrite.proofs.PlanLaws.{answer_at}
 use Rattle.rewrite.proofs.cut.cut.Goals as goal
 use Rattle.rewrite.proofs.cut.cut.Goals.{Else-not-is_up_to}
 
 windowed : (c : Else-not-is_up_to) → is_window (window c.args.first c.args.last) ≡ true
-windowed c = sym c.is_up_to.ensures ∙ not-false c.is_up_to.result c.if-not-is_up_to.false-raw
+windowed c = let t : c.is_up_to.result ≡ true = search rules in sym c.is_up_to.ensures ∙ t
 
 pub returns-then-not-is_up_to : goal.returns-then-not-is_up_to
-returns-then-not-is_up_to c = answer_at c.refused.ensures (no_window (sym c.is_up_to.ensures ∙ not-true c.is_up_to.result c.if-not-is_up_to.true-raw))
+returns-then-not-is_up_to c = let t : c.is_up_to.result ≡ false = search rules in no_window (sym c.is_up_to.ensures ∙ t)
+
+pub returns-in_err-verdict : goal.returns-in_err-verdict
+returns-in_err-verdict c =
+    let e : c.from_residual.result ≡ Err c.in_err-verdict.field-0.0 = search rules in
+    rw e (unfit _ (windowed (goal.at.returns-in_err-verdict c).Else-not-is_up_to) c.in_err-verdict.ensures)
 
 pub cut_product-requires : goal.cut_product-requires
-cut_product-requires c =
-    record { product = accepted_product (verdict_at _ c.in-Accepted.is c.verdict.ensures); windowed = windowed (goal.at.cut_product-requires c).Else-not-is_up_to }
-
-pub returns-in-Refused : goal.returns-in-Refused
-returns-in-Refused c = unfit _ (windowed (goal.at.returns-in-Refused c).Else-not-is_up_to) (verdict_at _ c.in-Refused.is c.verdict.ensures)
+cut_product-requires c = record { product = accepted_product c.in_ok-verdict.ensures; windowed = windowed (goal.at.cut_product-requires c).Else-not-is_up_to }

@@ -9,7 +9,7 @@ use Rattle.rewrite.proofs.JoinPlanLaws.{two_headers, planned_header, planned_fir
 use Rattle.rewrite.proofs.join.put_join.Goals as goal
 use Rattle.rewrite.proofs.join.put_join.Goals.{After-header-1, After-copy, After-copy-2, After-put_pointers}
 
-small : (c : After-header-1) → c.args.size ≤ 2147483647
+small : (c : After-header-1) → c.args.plan.size ≤ 2147483647
 small c = let p = c.requires in omega (arith, p.planned.size_is, p.planned.holdable.size)
 
 long-1 : (c : After-copy) → length c.copy.new.room ≡ length c.args.room.now

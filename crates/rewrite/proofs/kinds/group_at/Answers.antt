@@ -1,15 +1,15 @@
--- `rewrite::kinds::group_at` meets its contract: by the tests that led to each group. Assumes nothing.
+-- `rewrite::kinds::group_at` meets its contract: by the arms that led to each group. Assumes nothing.
 use native.Mathlib.Omega.{arith}
 use Prim.Native.Nat.{◌%◌}
 use mathlib.Core.Path.{◌≡◌, sym, ◌∙◌}
 use Rattle.rewrite.proofs.EmitLaws.{group_low, group_15, group_99}
 use Rattle.rewrite.proofs.kinds.group_at.Goals as goal
 
-pub returns-then-x-lt14 : goal.returns-then-x-lt14
-returns-then-x-lt14 c = let a = c.args in c.byte.ensures ∙ (let e : a.x % 256 ≡ a.x = omega arith in e) ∙ sym (group_low a.x c.if-x-lt14.true)
+pub returns-in-0-to-13 : goal.returns-in-0-to-13
+returns-in-0-to-13 c = let a = c.args in c.byte.ensures ∙ (let e : a.x % 256 ≡ a.x = omega arith in e) ∙ sym (group_low a.x (omega arith))
 
-pub returns-then-x-eq14 : goal.returns-then-x-eq14
-returns-then-x-eq14 c = sym (group_15 c.args.x c.if-x-eq14.true)
+pub returns-in-14 : goal.returns-in-14
+returns-in-14 c = sym (group_15 c.args.x (omega arith))
 
-pub returns : goal.returns
-returns c = sym (group_99 c.args.x c.if-x-lt14.false c.if-x-eq14.false)
+pub returns-in_default : goal.returns-in_default
+returns-in_default c = sym (group_99 c.args.x (omega arith) (λ e. omega arith))

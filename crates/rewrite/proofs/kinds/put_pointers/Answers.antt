@@ -8,19 +8,13 @@ pub loop-j-init : goal.loop-j-init
 loop-j-init c = emit_first c.requires
 
 pub put_place-to-requires : goal.put_place-to-requires
-put_place-to-requires c = emit_place c.loop-j.invariant c.loop-j-test.true
-
-pub overflow_add-j : goal.overflow_add-j
-overflow_add-j c = omega arith
-
-pub loop-j-smaller : goal.loop-j-smaller
-loop-j-smaller c = omega arith
+put_place-to-requires c = emit_place c.loop-j.invariant (omega arith)
 
 pub loop-j-preserved : goal.loop-j-preserved
-loop-j-preserved c = emit_next c.loop-j.invariant c.loop-j-test.true c.put_place-to.ensures
+loop-j-preserved c = emit_next c.loop-j.invariant (omega arith) c.put_place-to.ensures
 
 pub shape_of-room : goal.shape_of-room
 shape_of-room c = c.loop-j.invariant.long
 
 pub returns : goal.returns
-returns c = emit_last c.loop-j.invariant c.loop-j-test.false
+returns c = emit_last c.loop-j.invariant (omega arith)

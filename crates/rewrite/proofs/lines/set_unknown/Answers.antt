@@ -3,7 +3,7 @@ use Prim.Native.Nat.{ℕ}
 use native.Mathlib.Omega.{arith}
 use mathlib.Core.Path.{◌≡◌, refl, sym}
 use mathlib.Core.List.{[], ◌∷◌}
-use Rattle.text.specs.declared.Number.TheVariants as N
+use Rattle.std.specs.declared.option.Option.TheVariants.{None}
 use Rattle.mphr.specs.Layout.{fields, widths, width_of}
 use Rattle.parts.specs.Rewritten.{text, number, Anew, anew}
 use Rattle.rewrite.proofs.LineLaws.{adds_value, unknown_for}
@@ -11,7 +11,7 @@ use borrow.Author.Rules.{rules}
 use Rattle.rewrite.proofs.lines.set_unknown.Goals as goal
 
 abbrev unknown : ℕ → Anew
-unknown k = anew k (number N.Undefined)
+unknown k = anew k (number None)
 
 mark-width : width_of 71 ≡ 1
 unfolding width_of widths fields

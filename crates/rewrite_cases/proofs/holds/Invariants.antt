@@ -1,9 +1,0 @@
--- `rewrite_cases::holds`: the bytes passed are within the room.
-use Rattle.std.proofs.Common.{length, ◌-◌, ◌≤◌}
-use Rattle.rewrite_cases.proofs.holds.Given as goal
-
-abbrev pub invariant-loop-i : goal.invariant-loop-i
-invariant-loop-i l = l.i ≤ length l.room
-
-abbrev pub decreases-loop-i : goal.decreases-loop-i
-decreases-loop-i l = length l.room - l.i

@@ -1,9 +1,0 @@
--- `uth_cases::ask_blocks`: so many blocks.
-use Rattle.std.proofs.Common.{◌-◌, ◌≤◌}
-use Rattle.uth_cases.proofs.ask_blocks.Given as goal
-
-abbrev pub invariant-loop-k : goal.invariant-loop-k
-invariant-loop-k g l = l.k ≤ l.count
-
-abbrev pub decreases-loop-k : goal.decreases-loop-k
-decreases-loop-k g l = l.count - l.k

@@ -1,9 +1,0 @@
--- `uth_cases::print_rows`: the rows passed are within the rows.
-use Rattle.std.proofs.Common.{length, ◌-◌, ◌≤◌}
-use Rattle.uth_cases.proofs.print_rows.Given as goal
-
-abbrev pub invariant-loop-i : goal.invariant-loop-i
-invariant-loop-i g l = l.i ≤ length l.rows
-
-abbrev pub decreases-loop-i : goal.decreases-loop-i
-decreases-loop-i g l = length l.rows - l.i

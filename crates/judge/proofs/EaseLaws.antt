@@ -1,10 +1,11 @@
 -- What the buffer says of a record, whatever its room: each pointer at or into the record by its own entry. Assumes nothing.
-use Rattle.std.proofs.Common.{◌≡◌, ℕ, ◌+◌, ◌*◌, ◌<◌, ◌≤◌, List, length, take, drop, ◌++◌, get_or, subst, sym, refl, ◌∙◌, zero-le, le_refl, arith, length-append, length-drop, length-take-le, get_or-take}
+use Rattle.std.proofs.Common.{◌≡◌, sym, ℕ, ◌+◌, ◌*◌, ◌<◌, ◌≤◌, List, length, take, drop, ◌++◌, get_or, subst, refl, ◌∙◌, zero-le, le_refl, arith, length-append, length-drop, length-take-le, get_or-take}
 use Rattle.std.specs.List.{Contains}
 use Rattle.std.specs.List.Sorted.{IsPermutation, IsNonDecreasing}
-use Rattle.std.proofs.lemmas.List.{get_or_default, get_or_append_left}
+use Rattle.std.proofs.lemmas.List.{get_or_default, get_or_append_left, take-append-drop}
 use Rattle.std.proofs.lemmas.List.Sorted.{Contains-permutation, length_permutation}
 use Rattle.std.proofs.lemmas.List.Elements.{Contains-get_or}
+use Rattle.std.proofs.Math.Seq.{take-append_seam}
 use native.Mathlib.Decide.{dec_lt}
 use Rattle.judge.specs.declared.pending.Hold.{Hold}
 use Rattle.judge.specs.declared.pointers.Pointers.{Pointers}
@@ -30,6 +31,10 @@ ready_none f s = rw f (record { same = s; begun = le_refl _; few = zero-le; end_
 pub ready_still : {a h : List ℕ} {e i x : ℕ} {r : Hold} → HoldIs a i h r → r.end ≡ e → ReadyIs a h (length h) e i x r
 ready_still b f = record { same = refl; begun = b.begun; few = b.few; end_is = f; sorted = b.sorted; all = λ p w _. (rw f at b.all) p w }
 
+-- the first n of all, where they were put in order by themselves
+pub part_in_order : {n : ℕ} (ys rest : List ℕ) → length ys ≡ n → IsNonDecreasing ys → IsNonDecreasing (take n (ys ++ rest))
+part_in_order {n} ys rest s o = subst IsNonDecreasing (sym (subst (λ k. take k (ys ++ rest) ≡ ys) s (take-append_seam ys rest))) o
+
 -- what was gathered is put in order
 module _ (h ys : List ℕ) (n : ℕ) (fits : n ≤ length h) (moved : IsPermutation (take n h) ys) where
   as_many : length ys ≡ n
@@ -45,14 +50,19 @@ module _ (h ys : List ℕ) (n : ℕ) (fits : n ≤ length h) (moved : IsPermutat
   in_order : IsNonDecreasing ys → Sorted (ys ++ drop n h) n
   in_order o = record { rise = λ i j l u. rw (get_or_append_left ys (drop n h) 0 i (omega (arith, as_many)), get_or_append_left ys (drop n h) 0 j (omega (arith, as_many))) (o i j 0 l (omega (arith, as_many))) }
 
-pub ready_filled : {a h ys : List ℕ} {room e i x n edge : ℕ} → GatheredIs a h room e i edge x n → n ≤ length h → IsPermutation (take n h) ys → IsNonDecreasing ys → ReadyIs a (ys ++ drop n h) room e i x (record { next = 0; count = n; edge = edge; end = e; due = i })
-ready_filled {a} {h} {ys} {n = n} g l m o =
+filled_with : {a h ys : List ℕ} {room e i x n edge : ℕ} → GatheredIs a h room e i edge x n → n ≤ length h → IsPermutation (take n h) ys → IsNonDecreasing ys → ReadyIs a (ys ++ drop n h) room e i x (record { next = 0; count = n; edge = edge; end = e; due = i })
+filled_with {a} {h} {ys} {n = n} g l m o =
     record { same = omega (arith, length-append ys (drop n h), length-drop n h, as_many h ys n l m, g.same); begun = zero-le; few = omega (arith, g.same); end_is = refl; sorted = in_order h ys n l m o; all = λ p w u. still p (g.all (omega (arith, g.same)) p w u) }
   where
     still : (p : Site) → Held a h 0 n p.at → Held a (ys ++ drop n h) 0 n p.at
     still p c =
         let q = among h ys n l m c.at c.within in
         record { at = q.0; after = zero-le; within = q.1; entry = record { value = q.2 ∙ c.entry.value; small = c.entry.small } }
+
+pub ready_filled : {a h h' : List ℕ} {room e i x n edge : ℕ} → GatheredIs a h room e i edge x n → n ≤ length h → IsPermutation (take n h) (take n h') → IsNonDecreasing (take n h') → drop n h' ≡ drop n h → ReadyIs a h' room e i x (record { next = 0; count = n; edge = edge; end = e; due = i })
+ready_filled {a} {h} {h'} {room} {e} {i} {x} {n} {edge} g l m o r =
+    let put : take n h' ++ drop n h ≡ h' = subst (λ d. take n h' ++ d ≡ h') r (take-append-drop n h') in
+    subst (λ w. ReadyIs a w room e i x (record { next = 0; count = n; edge = edge; end = e; due = i })) put (filled_with g l m o)
 
 -- ---- what is eased
 module _ {a h : List ℕ} {room e i k x j due : ℕ} {v : Hold} (f : ReadyIs a h room e i x v) (s : SkippedIs h v.next v.count x j) (x-is : x ≡ key_of i k) (k-is : k ≡ kind_at a i) (small : k < any) (inside : due ≤ v.edge) (soonest : j < v.count → due * any ≤ get_or h j 0) where

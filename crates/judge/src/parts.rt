@@ -11,7 +11,7 @@ ghost use Rattle.judge.specs.Turning.{Begun, TotalsRead, Totals, FewerIs};
 
 pub use crate::header::is_part;
 use crate::header::{rank_in, triple, word};
-pub use crate::run::{Run, run_of};
+pub use crate::run::{Run, lesser, run_of};
 
 // The lowest number of the faults that a header shows by itself, as `rank_in` has it, where a record of the class `prev` is before it
 // and the table is the rule; 12, the number of none of them, where `prev` is no class.

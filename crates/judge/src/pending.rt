@@ -1,6 +1,7 @@
 // The nearest of the pointers whose targets are still to come, in a lent room of any size and in the order of their targets: where these
 // are in no order in the product, a record asks the next of the held and not all pointers.
-ghost use Rattle.std.specs.Prelude.{◌≡◌, ◌+◌, ◌*◌, ◌<◌, ◌≤◌, length, slice_index};
+ghost use Rattle.std.specs.Prelude.{◌≡◌, ◌+◌, ◌*◌, ◌<◌, ◌≤◌, length, slice_index, take, drop};
+ghost use Rattle.std.specs.List.Sorted.{IsPermutation, IsNonDecreasing};
 ghost use Rattle.mphr.specs.Table.{declared};
 ghost use Rattle.judge.specs.Step.{any, Scan, Kept};
 ghost use Rattle.judge.specs.Pending.{key_of, EntryIs, PutIs, GatheredIs, SkippedIs, no_hold, nothing_held, ReadyIs, HoldIs, EasedIs};
@@ -110,6 +111,16 @@ fn gather(
     n
 }
 
+// The first `count` of the held in ascending order: each of them is there still.
+fn put_in_order(held: &mut [usize], count: usize)
+    requires { count ≤ length held.old }
+    ensures kept { IsPermutation (take count held.old) (take count held.new) }
+    ensures sorted { IsNonDecreasing (take count held.new) }
+    ensures rest { drop count held.new ≡ drop count held.old }
+{
+    held[..count].sort_unstable();
+}
+
 // The buffer anew, before the record at `at`: in order, the pointers whose targets are from there on, as far as there is room for them.
 // Those that name the record, as many as they may be, need no place.
 fn refill(
@@ -129,7 +140,7 @@ fn refill(
     if held.len() < count {
         return nothing_held(at, end);
     }
-    held[..count].sort_unstable();
+    put_in_order(held, count);
     Hold {
         next: 0,
         count,

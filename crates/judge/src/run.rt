@@ -15,6 +15,13 @@ pub struct Run {
     pub end: usize,
 }
 
+// The lesser of two numbers: `min`, with its promise in plain numbers.
+pub fn lesser(a: usize, b: usize) -> usize
+    ensures { (result ≤ a) × (result ≤ b) × (a ≤ b → result ≡ a) × (b ≤ a → result ≡ b) }
+{
+    a.min(b)
+}
+
 // Records of the class and the size can be a run.
 fn is_run(class: u8, size: usize, d: usize) -> bool
     ensures { result ≡ true → Liking class size × (20 ≤ d) }

@@ -88,12 +88,20 @@ unfolding filled_to
 first x t zero = omega arith
 first x t (suc n) = omega (arith, first x t n)
 
-none : (t : List ℕ) → filled_to t 0 ≡ 0
+pub filled_none : (t : List ℕ) → filled_to t 0 ≡ 0
 unfolding filled_to
-none t = refl
+filled_none t = refl
+
+pub filled_skip : (t : List ℕ) (j : ℕ) → get_or t j 0 ≡ 0 → filled_to t (j + 1) ≡ filled_to t j
+unfolding filled_to
+filled_skip t j e = let z : j + 1 ≡ suc j = omega arith in rw (z, eq-eqb (get_or t j 0) 0 e) (omega arith)
+
+pub filled_more : (t : List ℕ) (j : ℕ) → (get_or t j 0 ≡ 0 → ⊥) → filled_to t (j + 1) ≡ filled_to t j + 1
+unfolding filled_to
+filled_more t j d = let z : j + 1 ≡ suc j = omega arith in rw (z, ne_eqb (get_or t j 0) 0 d)
 
 pub filled_is : (t : List ℕ) → count_by (λ (x : ℕ). not (eqb x 0)) t ≡ filled_to t (length t)
-filled_is [] = sym (none [])
+filled_is [] = sym (filled_none [])
 filled_is (x ∷ t) =
     let p = λ (y : ℕ). not (eqb y 0) in
     let s : count_by p (x ∷ t) ≡ cond (not (eqb x 0)) 1 0 + count_by p t = sum_by-cons (λ (y : ℕ). cond (not (eqb y 0)) 1 0) x t in

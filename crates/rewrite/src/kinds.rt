@@ -50,7 +50,14 @@ pub(crate) fn kinds_in(table: &[u32]) -> usize
     requires { length table.now ≡ 20480 }
     ensures { result ≡ filled_to table.now 20480 }
 {
-    table.iter().filter(|place| **place != 0).count()
+    // No `filter` and `count`: they take twice the time, in each cut and join.
+    let mut n: usize = 0;
+    for place in table {
+        if *place != 0 {
+            n += 1;
+        }
+    }
+    n
 }
 
 fn wide_word(x: u32) -> usize

@@ -1,7 +1,7 @@
 // The numbers of an answer: 0, or the refusal's number and place; then the values, what is undefined as a 0 before zeros.
 ghost use Rattle.std.specs.Prelude.{◌≡◌, IfOk, MatchResult};
 ghost use Rattle.calendar.specs.declared.Refusal.{Refusal};
-ghost use Rattle.told.specs.Told.{one4, time6, general12, time_words, written_said};
+ghost use Rattle.told.specs.Told.{four, six, one4, time6, moment12, general12, time_words, written_said};
 ghost use Rattle.told.specs.Told as N;
 
 use calendar::Refusal;
@@ -140,7 +140,67 @@ pub fn time_words(time: Option<Time>) -> TimeWords
     }
 }
 
-// For `rewrite_c`, which is not brought over yet.
+// The same, left in an array that a caller lends. Each is thin, over the functions above.
+pub fn refuse4(answer: &mut [u64; 4], r: Refusal)
+    ensures { answer.new ≡ N.refused 4 r }
+{
+    *answer = Answer::refusal(r);
+}
+
+pub fn refuse6(answer: &mut [u64; 6], r: Refusal)
+    ensures { answer.new ≡ N.refused 6 r }
+{
+    *answer = Answer::refusal(r);
+}
+
+pub fn refuse12(answer: &mut [u64; 12], r: Refusal)
+    ensures { answer.new ≡ N.refused 12 r }
+{
+    *answer = Answer::refusal(r);
+}
+
+pub fn refuse16(answer: &mut [u64; 16], r: Refusal)
+    ensures { answer.new ≡ N.refused 16 r }
+{
+    *answer = Answer::refusal(r);
+}
+
+pub fn put4(answer: &mut [u64; 4], a: u64, b: u64, c: u64, d: u64)
+    ensures { answer.new ≡ four a b c d }
+{
+    *answer = [a, b, c, d];
+}
+
+pub fn put6(answer: &mut [u64; 6], a: u64, b: u64, c: u64)
+    ensures { answer.new ≡ six a b c }
+{
+    *answer = [0, 0, a, b, c, 0];
+}
+
+pub fn put_one(answer: &mut [u64; 4], n: u64)
+    ensures { answer.new ≡ one4 n }
+{
+    *answer = one(n);
+}
+
+pub fn put_time(answer: &mut [u64; 6], time: Option<Time>)
+    ensures { answer.new ≡ time6 time }
+{
+    *answer = time_numbers(time);
+}
+
+pub fn put_moment(answer: &mut [u64; 12], t: Moment)
+    ensures { answer.new ≡ moment12 t }
+{
+    *answer = moment_numbers(Some(t));
+}
+
+pub fn put_general(answer: &mut [u64; 12], time: Option<Moment>)
+    ensures { answer.new ≡ general12 time }
+{
+    *answer = moment_numbers(time);
+}
+
 pub fn put_written(answer: &mut [u64; 4], said: Result<usize, Refusal>)
     ensures { answer.new ≡ written_said said }
 {

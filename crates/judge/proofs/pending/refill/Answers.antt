@@ -1,6 +1,5 @@
 -- `judge::pending::refill` meets its contract: nothing is held, or what was gathered, in order. Assumes nothing.
 use Rattle.std.proofs.Common.{le_refl, arith}
-use Rattle.std.proofs.lemmas.List.Sorted.{IsNonDecreasingBy-from_sort}
 use Rattle.judge.proofs.ScanLaws.{scan_narrow}
 use Rattle.judge.proofs.EaseLaws.{ready_none, ready_filled}
 use Rattle.judge.proofs.pending.refill.Goals as goal
@@ -16,4 +15,4 @@ returns-then-held-count c = ready_none c.nothing_held.ensures c.gather-count.ens
 
 pub returns : goal.returns
 returns c =
-    ready_filled c.gather-count.ensures c.if-held-count.false c.sort_unstable.ensures.permutation (IsNonDecreasingBy-from_sort (λ x. x) _ c.sort_unstable.ensures.sorted)
+    ready_filled c.gather-count.ensures c.if-held-count.false c.put_in_order.ensures.kept c.put_in_order.ensures.sorted c.put_in_order.ensures.rest
